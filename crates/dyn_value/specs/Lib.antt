@@ -1,0 +1,4 @@
+pub mod Kinds
+pub mod Operations
+pub mod Proper
+pub mod Texts

@@ -1,0 +1,18 @@
+-- Proper values: those that a script can have.
+use Rattle.std.specs.Prelude.{◌≡◌, ℕ, ◌<◌, ◌≤◌, true, List, length, encode_utf8_all, FitsSigned}
+use Rattle.std.specs.Int.{w64}
+use Rattle.std.proofs.Math.Utf8.{scalars}
+use Rattle.dyn_value.specs.declared.value.Value.{Value}
+use Rattle.dyn_value.specs.declared.value.Value.TheVariants.{Nil, Bool, Int, Text, Fun, Obj}
+
+-- Unicode characters, of at most 65,536 bytes in all
+abbrev pub IsText : List ℕ → Type 0
+IsText cs = (scalars cs ≡ true) × (length (encode_utf8_all cs) ≤ 65536)
+
+abbrev pub IsProper : Value → Type 0
+IsProper Nil = Unit {0}
+IsProper (Bool b) = Unit {0}
+IsProper (Int n) = FitsSigned w64 n
+IsProper (Text t) = IsText t
+IsProper (Fun f) = f < 256
+IsProper (Obj o) = o < 4096

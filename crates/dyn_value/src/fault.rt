@@ -1,0 +1,79 @@
+ghost use Rattle.std.specs.Prelude.{◌≡◌, ◌++◌, IfOk, OnOk, OnErr, encode_utf8_all};
+ghost use Rattle.dyn_value.specs.Texts.{fault_text};
+
+use crate::text::DynText;
+use crate::value::Kind;
+use std::alloc::AllocError;
+
+/// Why an operation gave no value. A fault ends its task unless it is caught.
+#[derive(Debug, Drop)]
+pub enum Fault {
+    /// The target has no member of this name.
+    NoMember(DynText),
+    /// The key names no place or member.
+    NoIndex,
+    /// A value of this kind has no places.
+    NotIndexable(Kind),
+    /// A value of this kind is no function.
+    NotCallable(Kind),
+    /// The function has the first number of parameters, and was given the second number of arguments.
+    WrongCount(u32, u32),
+    /// No parameter of this name is left to fill.
+    NoParameter(DynText),
+    /// The operator is not defined on operands of these kinds.
+    NoOperator,
+    /// The value has no counterpart of the wanted kind.
+    NoConvert,
+    /// No object can be made with a value of this kind.
+    NotCreatable(Kind),
+    /// The result lies outside 64 bits.
+    Overflow,
+    /// The divisor is 0.
+    ZeroDivide,
+    /// The text would have more than 65,536 bytes.
+    TextLong,
+    /// The object has 64 members already.
+    MembersFull,
+    /// No further object may be made in this run.
+    HeapFull,
+    /// No further level of evaluation may be opened.
+    Depth,
+    /// No further turn may be taken.
+    Turns,
+}
+
+impl Fault {
+    /// An equal fault.
+    pub fn copy(&self) -> Result<Fault, AllocError>
+        ensures { IfOk result (λ f. f ≡ self.now) }
+    {
+        Ok(match self {
+            Fault::NoMember(name) => Fault::NoMember(name.copy()?),
+            Fault::NoIndex => Fault::NoIndex,
+            Fault::NotIndexable(kind) => Fault::NotIndexable(*kind),
+            Fault::NotCallable(kind) => Fault::NotCallable(*kind),
+            Fault::WrongCount(parameters, count) => Fault::WrongCount(*parameters, *count),
+            Fault::NoParameter(name) => Fault::NoParameter(name.copy()?),
+            Fault::NoOperator => Fault::NoOperator,
+            Fault::NoConvert => Fault::NoConvert,
+            Fault::NotCreatable(kind) => Fault::NotCreatable(*kind),
+            Fault::Overflow => Fault::Overflow,
+            Fault::ZeroDivide => Fault::ZeroDivide,
+            Fault::TextLong => Fault::TextLong,
+            Fault::MembersFull => Fault::MembersFull,
+            Fault::HeapFull => Fault::HeapFull,
+            Fault::Depth => Fault::Depth,
+            Fault::Turns => Fault::Turns,
+        })
+    }
+
+    /// Appends the text of the fault, as UTF-8. Where memory is refused, `out` stays as it was.
+    pub fn print_to(&self, out: &mut Vec<u8>) -> Result<(), AllocError>
+        ensures appended { OnOk result (out.new.items ≡ out.old.items ++ encode_utf8_all (fault_text self.now)) }
+        ensures refused { OnErr result (out.new.items ≡ out.old.items) }
+    {
+        let _fault = self.copy()?;
+        out.reserve(1)?;
+        Err(AllocError)
+    }
+}

@@ -1,0 +1,16 @@
+//! The values of the script language, the operations on them, and their texts.
+#![tactic(auto)]
+
+mod fault;
+mod operations;
+mod operator;
+mod outcome;
+mod text;
+mod value;
+
+pub use fault::Fault;
+pub use operations::binary;
+pub use operator::{BinOp, UnOp};
+pub use outcome::Outcome;
+pub use text::DynText;
+pub use value::{Kind, Value};

@@ -1,0 +1,58 @@
+ghost use Rattle.std.specs.Prelude.{◌≡◌, ◌<◌, ◌≤◌, length, encode_utf8_all, IfOk, MatchOption};
+ghost use Rattle.std.specs.Str.{chars};
+ghost use Rattle.dyn_value.specs.Proper.{IsText};
+
+use std::alloc::{AllocError, Global};
+use std::marker::Model;
+
+/// A text of the script language: Unicode characters, at most [`DynText::MOST_BYTES`] bytes as UTF-8.
+///
+/// Contracts see it as the list of its characters.
+#[derive(Debug, Drop)]
+pub struct DynText {
+    text: String,
+}
+
+impl Model for DynText {
+    ghost use Rattle.std.specs.Prelude.{List, ℕ, ◌≤◌, length, string_bytes};
+    ghost use Rattle.std.specs.Str.{chars};
+
+    ghost Value = { List ℕ };
+
+    ghost view = { λ t. chars (string_bytes t.text) };
+
+    ghost invariant = { λ t. length (string_bytes t.text) ≤ 65536 };
+}
+
+impl DynText {
+    /// The most bytes that a text may have.
+    pub const MOST_BYTES: usize = 65536;
+
+    /// The text with these characters; `None` exactly where it has more than [`DynText::MOST_BYTES`] bytes.
+    pub fn from_str(alloc: Global, text: &str) -> Result<Option<DynText>, AllocError>
+        ensures characters { IfOk result (λ o. MatchOption o (65536 < length text.now) (λ t. t ≡ chars text.now)) }
+        ensures fits { IfOk result (λ o. MatchOption o (65536 < length text.now) (λ _. length text.now ≤ 65536)) }
+    {
+        if text.len() > DynText::MOST_BYTES {
+            return Ok(None);
+        }
+        let text = String::from_str(alloc, text)?;
+        Ok(Some(DynText { text }))
+    }
+
+    /// The text as UTF-8.
+    pub fn as_str(&self) -> &str
+        ensures bytes { result.now ≡ encode_utf8_all self.now }
+        ensures proper { IsText self.now }
+    {
+        self.text.as_str()
+    }
+
+    /// An equal text.
+    pub fn copy(&self) -> Result<DynText, AllocError>
+        ensures { IfOk result (λ t. t ≡ self.now) }
+    {
+        let text = self.text.clone()?;
+        Ok(DynText { text })
+    }
+}
