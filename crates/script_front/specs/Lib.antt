@@ -1,0 +1,11 @@
+pub mod Forms
+pub mod Grammar
+pub mod Halts
+pub mod Lexemes
+pub mod Programs
+pub mod Script
+pub mod Shallow
+pub mod Sites
+pub mod Spelling
+pub mod Words
+pub mod Written

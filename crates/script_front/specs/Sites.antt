@@ -1,0 +1,49 @@
+-- The sites of a script, and the numbers of their binders.
+use Rattle.std.specs.Prelude.{◌≡◌, ℕ, ◌+◌, max, Bool, true, ◌==◌, ◌&&◌, nat_le, List, [], ◌∷◌, ◌++◌, length, map, slice_get, Some}
+use Rattle.std.specs.List.{flat_map}
+use Rattle.standard_binders.specs.declared.binder.Binder.{Binder}
+use Rattle.standard_binders.specs.declared.binder.Binder.TheVariants.{BinaryOperation}
+use Rattle.script_front.specs.declared.tree.Head.TheFolds.{fold-Expr}
+use Rattle.script_front.specs.declared.tree.Head.TheOpen.{Head-F, Expr-F}
+use Rattle.script_front.specs.declared.tree.Stmt.{Stmt}
+use Rattle.script_front.specs.declared.tree.Stmt.TheVariants as stmt
+use Rattle.script_front.specs.declared.tree.Block.{Block}
+use Rattle.script_front.specs.declared.tree.Task.{Task}
+use Rattle.script_front.specs.declared.tree.Script.{Script}
+use Rattle.script_front.specs.declared.tree.Expr.{Expr}
+
+-- the binders of an expression's sites, in the order of their tokens
+abbrev pub head_sites : Head-F (List Binder) (List Binder) → List Binder
+head_sites (Head-F.Int n) = []
+head_sites (Head-F.Binary op left right) = left ++ BinaryOperation op ∷ right
+
+abbrev pub expr_layer_sites : Expr-F (List Binder) (List Binder) → List Binder
+expr_layer_sites e = e.head
+
+abbrev pub expr_sites : Expr → List Binder
+expr_sites e = fold-Expr (List Binder) (List Binder) head_sites expr_layer_sites e
+
+abbrev pub stmt_sites : Stmt → List Binder
+stmt_sites (stmt.Print value) = expr_sites value
+
+abbrev pub block_sites : Block → List Binder
+block_sites b = flat_map stmt_sites b.0
+
+abbrev pub task_sites : Task → List Binder
+task_sites t = block_sites t.body
+
+-- the binder of each site of a script
+abbrev pub site_binders : Script → List Binder
+site_binders s = flat_map task_sites s.tasks
+
+-- whether the numbers come in the order of their first uses, from so many known ones on, up to so many in all
+abbrev pub is_in_first_order : ℕ → List ℕ → ℕ → Bool
+is_in_first_order known [] all = known == all
+is_in_first_order known (n ∷ ns) all = nat_le n known && is_in_first_order (max known (n + 1)) ns all
+
+-- Each site has the number of its binder. The binders are distinct, and numbered in the order of their first
+-- sites.
+pub record IsNumbering (at_sites : List Binder) (sites : List ℕ) (binders : List Binder) : Type 0 where
+  pub each : map (slice_get binders) sites ≡ map Some at_sites
+  pub distinct : (i j : ℕ) (b : Binder) → slice_get binders i ≡ Some b → slice_get binders j ≡ Some b → i ≡ j
+  pub ordered : is_in_first_order 0 sites (length binders) ≡ true

@@ -1,0 +1,17 @@
+//! Reads scripts: from bytes to tokens, from tokens to the script tree, and its sites and binders.
+#![tactic(auto)]
+
+mod halt;
+mod lexer;
+mod limits;
+mod parser;
+mod program;
+mod reading;
+mod token;
+mod tree;
+
+pub use limits::{MOST_BYTES, MOST_OPEN_BRACKETS, MOST_SITES};
+pub use program::Program;
+pub use reading::{ReadFault, ScriptRefused, read};
+pub use token::{Keyword, Symbol, Token};
+pub use tree::{Block, Expr, Head, Script, Stmt, Task};
