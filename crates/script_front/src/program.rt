@@ -24,7 +24,8 @@ impl Program {
 
     /// The tasks, in script order.
     pub fn tasks(&self) -> &[Task]
-        ensures { result.now ≡ (script_of self.now).tasks }
+        ensures tasks { result.now ≡ (script_of self.now).tasks }
+        ensures few_sites { length (site_binders (script_of self.now)) ≤ 4096 }
     {
         self.script.tasks.as_slice()
     }

@@ -6,6 +6,7 @@ use Rattle.dyn_value.specs.declared.fault.Fault.TheVariants.{NoOperator}
 use Rattle.dyn_value.specs.declared.outcome.Outcome.{Outcome}
 use Rattle.dyn_value.specs.declared.outcome.Outcome.TheVariants as outcome
 use Rattle.dyn_value.specs.Operations.{binary_of}
+use Rattle.dyn_value.specs.Proper.{IsProper}
 use Rattle.standard_binders.specs.declared.binder.Binder.{Binder}
 use Rattle.standard_binders.specs.declared.binder.Binder.TheVariants.{BinaryOperation}
 
@@ -19,3 +20,8 @@ outcome_of (Err f) = outcome.Fault f
 abbrev pub plain_step : Binder → List Value → Outcome
 plain_step (BinaryOperation op) (left ∷ right ∷ []) = outcome_of (binary_of op left right)
 plain_step (BinaryOperation op) _ = outcome.Fault NoOperator
+
+-- a value that a script can have, or a fault
+abbrev pub IsProperOutcome : Outcome → Type 0
+IsProperOutcome (outcome.Value v) = IsProper v
+IsProperOutcome (outcome.Fault f) = Unit {0}

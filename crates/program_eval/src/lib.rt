@@ -1,0 +1,12 @@
+//! Runs the tasks of a script over a world that answers their operations.
+#![tactic(auto)]
+
+mod ended;
+mod printed;
+mod running;
+mod world;
+
+pub use ended::Ended;
+pub use printed::Printed;
+pub use running::run_task;
+pub use world::{Asked, World};
