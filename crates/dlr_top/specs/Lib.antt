@@ -1,0 +1,4 @@
+pub mod Devices
+pub mod Headline
+pub mod Lawful
+pub mod Rendering
