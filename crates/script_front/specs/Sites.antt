@@ -1,5 +1,5 @@
 -- The sites of a script, and the numbers of their binders.
-use Rattle.std.specs.Prelude.{◌≡◌, ℕ, ◌+◌, max, Bool, true, ◌==◌, ◌&&◌, nat_le, List, [], ◌∷◌, ◌++◌, length, map, slice_get, Some}
+use Rattle.std.specs.Prelude.{◌≡◌, ◌≢◌, ℕ, ◌+◌, max, Bool, true, ◌==◌, ◌&&◌, nat_le, List, [], ◌∷◌, ◌++◌, length, map, slice_get, Some}
 use Rattle.std.specs.List.{flat_map}
 use Rattle.standard_binders.specs.declared.binder.Binder.{Binder}
 use Rattle.standard_binders.specs.declared.binder.Binder.TheVariants.{BinaryOperation}
@@ -47,3 +47,8 @@ pub record IsNumbering (at_sites : List Binder) (sites : List ℕ) (binders : Li
   pub each : map (slice_get binders) sites ≡ map Some at_sites
   pub distinct : (i j : ℕ) (b : Binder) → slice_get binders i ≡ Some b → slice_get binders j ≡ Some b → i ≡ j
   pub ordered : is_in_first_order 0 sites (length binders) ≡ true
+
+-- the number of a binder: its place among the known ones, or the next, which makes it known
+pub data IsNumberOf (b : Binder) (old new : List Binder) (n : ℕ) : Type 0 where
+  Known : slice_get old n ≡ Some b → new ≡ old → IsNumberOf b old new n
+  Next : ((k : ℕ) → slice_get old k ≢ Some b) → n ≡ length old → new ≡ old ++ b ∷ [] → IsNumberOf b old new n

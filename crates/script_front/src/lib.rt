@@ -4,9 +4,12 @@
 mod halt;
 mod lexer;
 mod limits;
+mod numbering;
 mod parser;
 mod program;
 mod reading;
+mod shallow;
+mod sites;
 mod token;
 mod tree;
 

@@ -1,9 +1,14 @@
 ghost use Rattle.std.specs.Prelude.{◌≤◌, length};
 ghost use Rattle.script_front.specs.Sites.{site_binders, IsNumbering};
 
+use crate::limits::MOST_SITES;
+use crate::numbering::{Numbering, numbered};
+use crate::reading::{ReadFault, ScriptRefused};
+use crate::sites::script_sites;
 use crate::tree::{Script, Task};
 use sqlite_items::Items;
 use standard_binders::Binder;
+use std::alloc::Global;
 
 /// A script that was read: its tree, its sites with the numbers of their binders, and these binders.
 ///
@@ -18,9 +23,27 @@ pub struct Program {
 }
 
 impl Program {
-    ghost use Rattle.std.specs.Prelude.{◌≡◌, ◌≤◌, length};
+    ghost use Rattle.std.specs.Prelude.{◌≡◌, ◌<◌, ◌≤◌, length, IfOk, OnOk, IsErrOf};
     ghost use Rattle.script_front.specs.Sites.{site_binders, IsNumbering};
     ghost use Rattle.script_front.specs.Programs.{script_of, sites_of, binders_of};
+
+    /// The program of a script; refused exactly where it has more than 4,096 sites.
+    pub(crate) fn of(alloc: Global, script: Script) -> Result<Program, ReadFault>
+        ensures script { IfOk result (λ p. script_of p ≡ script) }
+        ensures few_sites { OnOk result (length (site_binders script) ≤ 4096) }
+        ensures refused { IsErrOf result (ReadFault.Refused ScriptRefused.NotBuilt) → 4096 < length (site_binders script) }
+    {
+        let at_sites = script_sites(alloc, &script)?;
+        if at_sites.len() > MOST_SITES {
+            return Err(ReadFault::Refused(ScriptRefused::NotBuilt));
+        }
+        let Numbering { sites, binders } = numbered(alloc, at_sites.as_slice())?;
+        Ok(Program {
+            script,
+            sites,
+            binders,
+        })
+    }
 
     /// The tasks, in script order.
     pub fn tasks(&self) -> &[Task]

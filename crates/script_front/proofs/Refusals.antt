@@ -1,0 +1,36 @@
+-- Bytes that are refused are no script.
+use Rattle.std.proofs.Common.{◌≡◌, ℕ, ◌<◌, ◌≤◌, List, [], ◌∷◌, ◌++◌, length, true, refl, sym, ap, ◌∙◌, subst, Result, arith, append-nil}
+use Rattle.std.specs.Prelude.{Err, IsUtf8}
+use Rattle.std.specs.Result.{IsErrAnd, IsErrOf}
+use Rattle.std.specs.Str.{chars}
+use Rattle.std.proofs.lemmas.Result.{err_from_is_err_and}
+use Rattle.script_front.specs.declared.token.Token.{Token}
+use Rattle.script_front.specs.declared.tree.Script.{Script}
+use Rattle.script_front.specs.Forms.{Stops, GoesOnAs}
+use Rattle.script_front.specs.Grammar.{script_form}
+use Rattle.script_front.specs.Lexemes.{AreTokens}
+use Rattle.script_front.specs.Script.{IsScript}
+use Rattle.script_front.specs.Shallow.{IsShallow}
+use Rattle.script_front.specs.Sites.{site_binders}
+use Rattle.script_front.specs.Spelling.{spell}
+use Rattle.script_front.specs.Written.{is_written}
+
+-- the fault that an exit hands on is the one that it got
+pub passed_on : {T E : Type 0} (r : Result T E) (got given : E) → IsErrAnd r (λ e. e ≡ got) → IsErrOf r given → got ≡ given
+passed_on r got given is at = let p = err_from_is_err_and r is in cc
+
+goes_on_itself : (ts : List Token) → GoesOnAs ts ts
+goes_on_itself [] = refl
+goes_on_itself (t ∷ ts) = (ts, refl)
+
+-- where the reading of a script stops, no script has the tokens
+pub stopped_none : (ts rest : List Token) → Stops script_form ts rest → (s : Script) → is_written s ≡ true → spell s ≡ ts → ⊥
+stopped_none ts rest stops s written same =
+    stops.stuck rest (goes_on_itself rest) s [] (written, refl) (sym stops.split ∙ sym same ∙ sym (append-nil (spell s)))
+
+-- these are the tokens of every script that the bytes are
+pub spelled : (bytes cs : List ℕ) (ts : List Token) (s : Script) → cs ≡ chars bytes → ((us : List Token) → AreTokens cs us → us ≡ ts) → IsScript bytes s → spell s ≡ ts
+spelled bytes cs ts s at only is = only (spell s) (subst (λ z. AreTokens z (spell s)) (sym at) is.tokens)
+
+pub no_tokens : (bytes cs : List ℕ) (s : Script) → cs ≡ chars bytes → ((ts : List Token) → AreTokens cs ts → ⊥) → IsScript bytes s → ⊥
+no_tokens bytes cs s at none is = none (spell s) (subst (λ z. AreTokens z (spell s)) (sym at) is.tokens)
