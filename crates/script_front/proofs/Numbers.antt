@@ -3,8 +3,9 @@ use Rattle.std.proofs.Common.{◌≡◌, ◌≢◌, ◌⊎◌, inl, inr, ℕ, ze
 use Rattle.std.specs.Prelude.{nat_le}
 use Rattle.std.proofs.lemmas.List.{get_or_append_left}
 use Rattle.std.proofs.Math.Seq.{get_or-append_seam}
-use Rattle.std.proofs.lemmas.List.{take_more}
-use Rattle.std.proofs.lemmas.Option.{slice_get_within, slice_get_past, slice_get-get_or, get_or_from_slice_get}
+use Rattle.std.proofs.lemmas.List.{take_more, length-map}
+use Rattle.std.proofs.lemmas.Option.{slice_get_within, slice_get_past, slice_get-get_or, get_or_from_slice_get, slice_get-map}
+use Rattle.std.specs.Option.{option_map}
 use Rattle.std.proofs.lemmas.Bool.Decides.{nat_tests}
 use Rattle.standard_binders.specs.declared.binder.Binder.{Binder}
 use Rattle.script_front.specs.Sites.{IsNumbering, IsNumberOf, Known, Next, is_in_first_order}
@@ -98,3 +99,15 @@ few_more old new n sites b h (Next none at grown) = omega (arith, ap length grow
 pub one_more_taken : (at_sites : List Binder) (i : ℕ) (d : Binder) (ns : List ℕ) (old new : List Binder) (n : ℕ) → i < length at_sites → IsNumbering (take i at_sites) ns old → IsNumberOf (get_or at_sites i d) old new n → IsNumbering (take (i + 1) at_sites) (ns ++ n ∷ []) new
 one_more_taken at_sites i d ns old new n h is number =
     subst (λ z. IsNumbering z (ns ++ n ∷ []) new) (sym (take_more at_sites i d h)) (one_more_numbered (take i at_sites) ns old new n (get_or at_sites i d) is number)
+
+-- the binder at a site is the one that has the site's number
+pub numbered_at : (at_sites : List Binder) (sites : List ℕ) (binders : List Binder) (i : ℕ) (d : Binder) → IsNumbering at_sites sites binders → i < length at_sites → slice_get binders (get_or sites i 0) ≡ Some (get_or at_sites i d)
+numbered_at at_sites sites binders i d is h =
+    let lengths : length sites ≡ length at_sites = sym (length-map sites (slice_get binders)) ∙ ap length is.each ∙ length-map at_sites Some in
+    let within : i < length sites = omega arith in
+    let left : slice_get (map (slice_get binders) sites) i ≡ Some (slice_get binders (get_or sites i 0)) =
+        slice_get-map (slice_get binders) sites i ∙ ap (option_map (slice_get binders)) (slice_get-get_or sites i 0 within) in
+    let right : slice_get (map Some at_sites) i ≡ Some (Some (get_or at_sites i d)) =
+        slice_get-map Some at_sites i ∙ ap (option_map Some) (slice_get-get_or at_sites i d h) in
+    let both = ap (λ z. slice_get z i) is.each in
+    cc

@@ -23,7 +23,7 @@ pub struct Program {
 }
 
 impl Program {
-    ghost use Rattle.std.specs.Prelude.{◌≡◌, ◌<◌, ◌≤◌, length, IfOk, OnOk, IsErrOf};
+    ghost use Rattle.std.specs.Prelude.{◌≡◌, ◌<◌, ◌≤◌, length, IfOk, OnOk, IsErrOf, Some, slice_get};
     ghost use Rattle.script_front.specs.Sites.{site_binders, IsNumbering};
     ghost use Rattle.script_front.specs.Programs.{script_of, sites_of, binders_of};
 
@@ -67,5 +67,14 @@ impl Program {
         ensures { result.now ≡ binders_of self.now }
     {
         self.binders.as_slice()
+    }
+
+    /// The binder of a site.
+    pub fn binder_of(&self, site: u32) -> &Binder
+        requires { site < length (site_binders (script_of self.now)) }
+        ensures { slice_get (site_binders (script_of self.now)) site ≡ Some result.now }
+    {
+        let number = self.sites()[site as usize];
+        &self.binders()[number as usize]
     }
 }

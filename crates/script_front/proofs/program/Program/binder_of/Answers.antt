@@ -1,0 +1,20 @@
+use Rattle.std.proofs.Common.{◌≡◌, Some, subst, sym, ap, ◌∙◌, get_or, slice_get}
+use Rattle.std.proofs.lemmas.Option.{slice_get_within, slice_get-get_or, get_or_from_slice_get}
+use Rattle.dyn_value.specs.declared.operator.BinOp.TheVariants.{Add}
+use Rattle.standard_binders.specs.declared.binder.Binder.{Binder}
+use Rattle.standard_binders.specs.declared.binder.Binder.TheVariants.{BinaryOperation}
+use Rattle.script_front.proofs.Numbers.{numbered_at}
+use Rattle.script_front.specs.Programs.{script_of, binders_of}
+use Rattle.script_front.specs.Sites.{site_binders}
+use Rattle.script_front.proofs.program.Program.binder_of.Goals as goal
+
+pub bounds-binders-number : goal.bounds-binders-number
+bounds-binders-number c =
+    let at_number = numbered_at (site_binders (script_of c.args.self.now)) c.sites.result.now (binders_of c.args.self.now) c.args.site (BinaryOperation Add) c.sites.ensures.numbering c.requires in
+    slice_get_within c.binders.result.now (get_or c.sites.result.now c.args.site 0) _ (ap (λ z. slice_get z (get_or c.sites.result.now c.args.site 0)) c.binders.ensures ∙ at_number)
+
+pub returns : goal.returns
+returns c =
+    let at_number = numbered_at (site_binders (script_of c.args.self.now)) c.sites.result.now (binders_of c.args.self.now) c.args.site (BinaryOperation Add) c.sites.ensures.numbering c.requires in
+    slice_get-get_or (site_binders (script_of c.args.self.now)) c.args.site (BinaryOperation Add) c.requires
+    ∙ ap Some (sym (get_or_from_slice_get c.binders.result.now (get_or c.sites.result.now c.args.site 0) _ (BinaryOperation Add) (ap (λ z. slice_get z (get_or c.sites.result.now c.args.site 0)) c.binders.ensures ∙ at_number)))
