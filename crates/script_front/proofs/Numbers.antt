@@ -1,33 +1,13 @@
 -- One more site is numbered.
 use Rattle.std.proofs.Common.{◌≡◌, ◌≢◌, ◌⊎◌, inl, inr, ℕ, zero, suc, ◌+◌, ◌<◌, ◌≤◌, max, Bool, true, false, ◌&&◌, ◌==◌, List, [], ◌∷◌, ◌++◌, length, map, Option, None, Some, refl, sym, ap, ◌∙◌, subst, arith, slice_get, length-append, get_or, take}
 use Rattle.std.specs.Prelude.{nat_le}
-use Rattle.std.proofs.lemmas.List.{get_or_append_left}
-use Rattle.std.proofs.Math.Seq.{get_or-append_seam}
 use Rattle.std.proofs.lemmas.List.{take_more, length-map}
 use Rattle.std.proofs.lemmas.Option.{slice_get_within, slice_get_past, slice_get-get_or, get_or_from_slice_get, slice_get-map}
 use Rattle.std.specs.Option.{option_map}
 use Rattle.std.proofs.lemmas.Bool.Decides.{nat_tests}
 use Rattle.standard_binders.specs.declared.binder.Binder.{Binder}
+use Rattle.script_front.proofs.Lists.{grown_get, last_get, grown_got}
 use Rattle.script_front.specs.Sites.{IsNumbering, IsNumberOf, Known, Next, is_in_first_order}
-
--- what stands in a list stands there when the list has grown
-grown_get : (bs : List Binder) (x b : Binder) (n : ℕ) → slice_get bs n ≡ Some b → slice_get (bs ++ x ∷ []) n ≡ Some b
-grown_get bs x b n e =
-    let within = slice_get_within bs n b e in
-    let inside : n < length (bs ++ x ∷ []) = omega (arith, length-append bs (x ∷ [])) in
-    slice_get-get_or (bs ++ x ∷ []) n x inside ∙ ap Some (get_or_append_left bs (x ∷ []) x n within ∙ get_or_from_slice_get bs n b x e)
-
-last_get : (bs : List Binder) (x : Binder) → slice_get (bs ++ x ∷ []) (length bs) ≡ Some x
-last_get bs x =
-    let inside : length bs < length (bs ++ x ∷ []) = omega (arith, length-append bs (x ∷ [])) in
-    slice_get-get_or (bs ++ x ∷ []) (length bs) x inside ∙ ap Some (get_or-append_seam bs x [] x)
-
--- what stands in a grown list stood there before, or is the new one at its end
-grown_got : (bs : List Binder) (x b : Binder) (n : ℕ) → slice_get (bs ++ x ∷ []) n ≡ Some b → (slice_get bs n ≡ Some b) ⊎ ((n ≡ length bs) × (x ≡ b))
-grown_got [] x b zero e = inr (refl, cc)
-grown_got [] x b (suc n) e = absurd (cc)
-grown_got (c ∷ bs) x b zero e = inl e
-grown_got (c ∷ bs) x b (suc n) e = elim (grown_got bs x b n e) [ inl h ↦ inl h | inr h ↦ inr (omega arith, h.1) ]
 
 grown_each : (bs : List Binder) (x : Binder) (ns : List ℕ) (known : List Binder) → map (slice_get bs) ns ≡ map Some known → map (slice_get (bs ++ x ∷ [])) ns ≡ map Some known
 grown_each bs x [] [] e = refl

@@ -1,8 +1,10 @@
 -- Bytes that are refused are no script.
-use Rattle.std.proofs.Common.{◌≡◌, ℕ, ◌<◌, ◌≤◌, List, [], ◌∷◌, ◌++◌, length, true, refl, sym, ap, ◌∙◌, subst, Result, arith, append-nil}
-use Rattle.std.specs.Prelude.{Err, IsUtf8}
+use Rattle.std.proofs.Common.{◌≡◌, ℕ, ◌<◌, ◌≤◌, List, [], ◌∷◌, ◌++◌, length, Bool, true, ◌&&◌, refl, sym, ap, ◌∙◌, subst, Result, arith, append-nil}
+use Rattle.std.specs.Prelude.{Err, IsUtf8, nat_le}
 use Rattle.std.specs.Result.{IsErrAnd, IsErrOf}
+use Rattle.std.specs.List.{list_all}
 use Rattle.std.specs.Str.{chars}
+use Rattle.std.proofs.lemmas.Bool.Decides.{nat_tests}
 use Rattle.std.proofs.lemmas.Result.{err_from_is_err_and}
 use Rattle.script_front.specs.declared.token.Token.{Token}
 use Rattle.script_front.specs.declared.tree.Script.{Script}
@@ -13,7 +15,7 @@ use Rattle.script_front.specs.Script.{IsScript}
 use Rattle.script_front.specs.Shallow.{IsShallow}
 use Rattle.script_front.specs.Sites.{site_binders}
 use Rattle.script_front.specs.Spelling.{spell}
-use Rattle.script_front.specs.Written.{is_written}
+use Rattle.script_front.specs.Written.{is_written, is_written_task}
 
 -- the fault that an exit hands on is the one that it got
 pub passed_on : {T E : Type 0} (r : Result T E) (got given : E) → IsErrAnd r (λ e. e ≡ got) → IsErrOf r given → got ≡ given
@@ -28,9 +30,16 @@ pub stopped_none : (ts rest : List Token) → Stops script_form ts rest → (s :
 stopped_none ts rest stops s written same =
     stops.stuck rest (goes_on_itself rest) s [] (written, refl) (sym stops.split ∙ sym same ∙ sym (append-nil (spell s)))
 
+at_most_one : (n : ℕ) (b : Bool) → (nat_le n 1 && b) ≡ true → n ≤ 8
+at_most_one n b e = grind (arith, nat_tests)
+
 -- these are the tokens of every script that the bytes are
 pub spelled : (bytes cs : List ℕ) (ts : List Token) (s : Script) → cs ≡ chars bytes → ((us : List Token) → AreTokens cs us → us ≡ ts) → IsScript bytes s → spell s ≡ ts
 spelled bytes cs ts s at only is = only (spell s) (subst (λ z. AreTokens z (spell s)) (sym at) is.tokens)
 
 pub no_tokens : (bytes cs : List ℕ) (s : Script) → cs ≡ chars bytes → ((ts : List Token) → AreTokens cs ts → ⊥) → IsScript bytes s → ⊥
 no_tokens bytes cs s at none is = none (spell s) (subst (λ z. AreTokens z (spell s)) (sym at) is.tokens)
+
+-- a written script has few tasks
+pub few_tasks : (s : Script) → is_written s ≡ true → length s.tasks ≤ 8
+few_tasks s written = at_most_one (length s.tasks) (list_all is_written_task s.tasks) written

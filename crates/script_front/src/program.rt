@@ -20,6 +20,7 @@ pub struct Program {
     pub(crate) binders: Items<Binder>,
     ghost numbering: { IsNumbering (site_binders script) sites binders },
     ghost few_sites: { length (site_binders script) ≤ 4096 },
+    ghost few_tasks: { length script.tasks ≤ 8 },
 }
 
 impl Program {
@@ -29,6 +30,7 @@ impl Program {
 
     /// The program of a script; refused exactly where it has more than 4,096 sites.
     pub(crate) fn of(alloc: Global, script: Script) -> Result<Program, ReadFault>
+        requires { length script.tasks ≤ 8 }
         ensures script { IfOk result (λ p. script_of p ≡ script) }
         ensures few_sites { OnOk result (length (site_binders script) ≤ 4096) }
         ensures refused { IsErrOf result (ReadFault.Refused ScriptRefused.NotBuilt) → 4096 < length (site_binders script) }
@@ -48,6 +50,7 @@ impl Program {
     /// The tasks, in script order.
     pub fn tasks(&self) -> &[Task]
         ensures tasks { result.now ≡ (script_of self.now).tasks }
+        ensures few { length result.now ≤ 8 }
         ensures few_sites { length (site_binders (script_of self.now)) ≤ 4096 }
     {
         self.script.tasks.as_slice()
