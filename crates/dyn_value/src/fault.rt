@@ -1,4 +1,4 @@
-ghost use Rattle.std.specs.Prelude.{◌≡◌, ◌++◌, IfOk, OnOk, OnErr, encode_utf8_all};
+ghost use Rattle.std.specs.Prelude.{◌≡◌, ◌↔◌, ◌++◌, IsTrue, IfOk, OnOk, OnErr, encode_utf8_all};
 ghost use Rattle.dyn_value.specs.Texts.{fault_text};
 
 use crate::text::DynText;
@@ -43,6 +43,33 @@ pub enum Fault {
 }
 
 impl Fault {
+    /// Whether the two faults have the same name and the same parts.
+    pub fn same(&self, other: &Fault) -> bool
+        ensures { IsTrue result ↔ (self.now ≡ other.now) }
+    {
+        match (self, other) {
+            (Fault::NoMember(mine), Fault::NoMember(theirs)) => mine.same(theirs),
+            (Fault::NoIndex, Fault::NoIndex) => true,
+            (Fault::NotIndexable(mine), Fault::NotIndexable(theirs)) => mine == theirs,
+            (Fault::NotCallable(mine), Fault::NotCallable(theirs)) => mine == theirs,
+            (Fault::WrongCount(mine, count), Fault::WrongCount(theirs, given)) => {
+                mine == theirs && count == given
+            }
+            (Fault::NoParameter(mine), Fault::NoParameter(theirs)) => mine.same(theirs),
+            (Fault::NoOperator, Fault::NoOperator) => true,
+            (Fault::NoConvert, Fault::NoConvert) => true,
+            (Fault::NotCreatable(mine), Fault::NotCreatable(theirs)) => mine == theirs,
+            (Fault::Overflow, Fault::Overflow) => true,
+            (Fault::ZeroDivide, Fault::ZeroDivide) => true,
+            (Fault::TextLong, Fault::TextLong) => true,
+            (Fault::MembersFull, Fault::MembersFull) => true,
+            (Fault::HeapFull, Fault::HeapFull) => true,
+            (Fault::Depth, Fault::Depth) => true,
+            (Fault::Turns, Fault::Turns) => true,
+            _ => false,
+        }
+    }
+
     /// An equal fault.
     pub fn copy(&self) -> Result<Fault, AllocError>
         ensures { IfOk result (λ f. f ≡ self.now) }

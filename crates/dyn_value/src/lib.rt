@@ -1,6 +1,7 @@
 //! The values of the script language, the operations on them, and their texts.
 #![tactic(auto)]
 
+mod arithmetic;
 mod fault;
 mod operations;
 mod operator;
@@ -9,7 +10,7 @@ mod text;
 mod value;
 
 pub use fault::Fault;
-pub use operations::binary;
+pub use operations::{binary, unary};
 pub use operator::{BinOp, UnOp};
 pub use outcome::Outcome;
 pub use text::DynText;

@@ -1,4 +1,4 @@
-ghost use Rattle.std.specs.Prelude.{◌≡◌, ◌<◌, ◌≤◌, length, encode_utf8_all, IfOk, MatchOption};
+ghost use Rattle.std.specs.Prelude.{◌≡◌, ◌↔◌, ◌<◌, ◌≤◌, ◌++◌, length, encode_utf8_all, IfOk, IsTrue, MatchOption};
 ghost use Rattle.std.specs.Str.{chars};
 ghost use Rattle.dyn_value.specs.Proper.{IsText};
 
@@ -54,5 +54,28 @@ impl DynText {
     {
         let text = self.text.clone()?;
         Ok(DynText { text })
+    }
+
+    /// Whether the two texts have the same characters.
+    pub fn same(&self, other: &DynText) -> bool
+        ensures { IsTrue result ↔ (self.now ≡ other.now) }
+    {
+        self.text.as_str() == other.text.as_str()
+    }
+
+    /// This text with `next` after it; `None` exactly where that has more than
+    /// [`DynText::MOST_BYTES`] bytes.
+    pub(crate) fn join(&self, alloc: Global, next: &DynText) -> Result<Option<DynText>, AllocError>
+        ensures characters { IfOk result (λ o. MatchOption o (65536 < length (encode_utf8_all (self.now ++ next.now))) (λ t. t ≡ self.now ++ next.now)) }
+        ensures fits { IfOk result (λ o. MatchOption o (65536 < length (encode_utf8_all (self.now ++ next.now))) (λ _. length (encode_utf8_all (self.now ++ next.now)) ≤ 65536)) }
+    {
+        let bytes = self.text.len() + next.text.len();
+        if bytes > DynText::MOST_BYTES {
+            return Ok(None);
+        }
+        let mut text = String::with_capacity(alloc, bytes)?;
+        text.push_str(self.text.as_str())?;
+        text.push_str(next.text.as_str())?;
+        Ok(Some(DynText { text }))
     }
 }

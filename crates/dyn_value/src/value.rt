@@ -1,4 +1,4 @@
-ghost use Rattle.std.specs.Prelude.{◌≡◌, ◌++◌, IfOk, OnOk, OnErr, encode_utf8_all};
+ghost use Rattle.std.specs.Prelude.{◌≡◌, ◌↔◌, ◌++◌, IsTrue, IfOk, OnOk, OnErr, encode_utf8_all};
 ghost use Rattle.dyn_value.specs.Kinds.{kind_of};
 ghost use Rattle.dyn_value.specs.Texts.{plain};
 
@@ -39,6 +39,21 @@ impl Value {
             Value::Text(_) => Kind::Text,
             Value::Fun(_) => Kind::Fun,
             Value::Obj(_) => Kind::Obj,
+        }
+    }
+
+    /// Whether the two values have the same kind and the same content.
+    pub fn same(&self, other: &Value) -> bool
+        ensures { IsTrue result ↔ (self.now ≡ other.now) }
+    {
+        match (self, other) {
+            (Value::Nil, Value::Nil) => true,
+            (Value::Bool(mine), Value::Bool(theirs)) => mine == theirs,
+            (Value::Int(mine), Value::Int(theirs)) => mine == theirs,
+            (Value::Text(mine), Value::Text(theirs)) => mine.same(theirs),
+            (Value::Fun(mine), Value::Fun(theirs)) => mine == theirs,
+            (Value::Obj(mine), Value::Obj(theirs)) => mine == theirs,
+            _ => false,
         }
     }
 
