@@ -3,9 +3,11 @@
 
 mod arithmetic;
 mod fault;
+mod label;
 mod operations;
 mod operator;
 mod outcome;
+mod quote;
 mod text;
 mod value;
 

@@ -1,4 +1,4 @@
-ghost use Rattle.std.specs.Prelude.{◌≡◌, ◌↔◌, ◌<◌, ◌≤◌, ◌++◌, length, encode_utf8_all, IfOk, IsTrue, MatchOption};
+ghost use Rattle.std.specs.Prelude.{◌≡◌, ◌↔◌, ◌<◌, ◌≤◌, ◌++◌, length, encode_utf8_all, IfOk, IsTrue, MatchOption, string_bytes, string_len};
 ghost use Rattle.std.specs.Str.{chars};
 ghost use Rattle.dyn_value.specs.Proper.{IsText};
 
@@ -40,12 +40,28 @@ impl DynText {
         Ok(Some(DynText { text }))
     }
 
+    /// The text of a string that is short enough.
+    pub(crate) fn from_string(text: String) -> DynText
+        requires { string_len text ≤ 65536 }
+        ensures { result ≡ chars (string_bytes text) }
+    {
+        DynText { text }
+    }
+
     /// The text as UTF-8.
     pub fn as_str(&self) -> &str
         ensures bytes { result.now ≡ encode_utf8_all self.now }
         ensures proper { IsText self.now }
     {
         self.text.as_str()
+    }
+
+    /// The text as a string of its own.
+    pub(crate) fn to_string(&self, alloc: Global) -> Result<String, AllocError>
+        ensures characters { IfOk result (λ s. chars (string_bytes s) ≡ self.now) }
+        ensures fits { IfOk result (λ s. string_len s ≤ 65536) }
+    {
+        String::from_str(alloc, self.text.as_str())
     }
 
     /// An equal text.
