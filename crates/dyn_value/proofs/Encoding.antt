@@ -1,7 +1,10 @@
 -- Characters, and the bytes that spell them.
-use Rattle.std.proofs.Common.{◌≡◌, ℕ, ◌+◌, ◌^◌, ◌<◌, ◌≤◌, ℤ, FitsSigned, List, [], ◌∷◌, ◌++◌, length, sym, ap, ◌∙◌, length-append, arith, string_bytes, string_len}
+use Rattle.std.proofs.Common.{◌≡◌, true, ℕ, ◌+◌, ◌^◌, ◌<◌, ◌≤◌, ℤ, FitsSigned, List, [], ◌∷◌, ◌++◌, length, sym, ap, ◌∙◌, length-append, arith, string_bytes, string_len}
 use Rattle.std.specs.Prelude.{String, encode_utf8, encode_utf8_all, Result, Ok, Err, IfOk, OnOk, is_ok, if◌then◌else◌}
-use Rattle.std.specs.Char.{IsScalar}
+use Rattle.std.specs.Char.{IsScalar, is_ascii}
+use Rattle.std.specs.List.{list_all}
+use Rattle.std.proofs.lemmas.Bool.Decides.{nat_tests}
+use Rattle.std.proofs.lemmas.Str.Ascii.{IsAscii-nil, IsAscii-cons}
 use Rattle.std.proofs.lemmas.List.{append-nil}
 use Rattle.std.specs.Str.{chars, IsUtf8, IsAscii}
 use Rattle.std.proofs.lemmas.Str.{encodes-chars, encodes-append, chars-append, chars-nil, chars-IsAscii, IsAscii-append, chars_past_char, IsUtf8-encode}
@@ -48,22 +51,34 @@ pub length_made : {Z E : Type 0} (r : Result (String Z) E) (bs : List ℕ) (n : 
 length_made (Ok s) bs n fits made = omega (arith, ap length made)
 length_made (Err e) bs n fits made = tt
 
--- the bytes of a decimal number are its characters
-pub chars_decimal : (n : ℕ) → n < 2 ^ 64 → chars (decimal n) ≡ decimal n
-chars_decimal n small = chars-IsAscii (decimal n) (IsAscii-decimal n small)
+-- a label that passes the test is ASCII
+pub ascii_label : (bs : List ℕ) → list_all is_ascii bs ≡ true → IsAscii bs
+ascii_label [] h = IsAscii-nil
+ascii_label (b ∷ bs) h =
+    let first : b < 128 = grind (arith, nat_tests, h) in
+    let others : list_all is_ascii bs ≡ true = grind (arith, nat_tests, h) in
+    IsAscii-cons b bs first (ascii_label bs others)
 
-pub chars_signed : (z : ℤ) → FitsSigned w64 z → chars (signed_decimal z) ≡ signed_decimal z
-chars_signed z fits = chars-IsAscii (signed_decimal z) (IsAscii-signed z fits.sfits)
+-- the bytes of a label are its characters
+pub chars_label : (bs : List ℕ) → list_all is_ascii bs ≡ true → chars bs ≡ bs
+chars_label bs h = chars-IsAscii bs (ascii_label bs h)
 
--- the same of a name that ends in a number
-pub chars_numbered : (bs : List ℕ) (n : ℕ) → IsAscii bs → n < 2 ^ 64 → chars (bs ++ decimal n) ≡ bs ++ decimal n
-chars_numbered bs n ascii small = chars-IsAscii (bs ++ decimal n) (IsAscii-append bs (decimal n) ascii (IsAscii-decimal n small))
+-- those of a label and an ASCII text
+pub chars_labelled : (bs ds : List ℕ) → list_all is_ascii bs ≡ true → IsAscii ds → chars (bs ++ ds) ≡ bs ++ ds
+chars_labelled bs ds h ascii = chars-IsAscii (bs ++ ds) (IsAscii-append bs ds (ascii_label bs h) ascii)
 
--- and how long they are
+pub ascii_signed : (z : ℤ) → FitsSigned w64 z → IsAscii (signed_decimal z)
+ascii_signed z fits = IsAscii-signed z fits.sfits
+
+-- two numbers with a space between them
+pub ascii_numbers : (a b : ℕ) → a < 2 ^ 64 → b < 2 ^ 64 → IsAscii (decimal a ++ 32 ∷ decimal b)
+ascii_numbers a b small_a small_b = IsAscii-append (decimal a) (32 ∷ decimal b) (IsAscii-decimal a small_a) (IsAscii-cons 32 (decimal b) (omega arith) (IsAscii-decimal b small_b))
+
+-- how long a number is, and a label with a number
 pub length_signed : (z : ℤ) → FitsSigned w64 z → length (signed_decimal z) ≤ 65536
 length_signed z fits = omega (arith, length_signed_le 20 z (omega (arith, fits.sfits)) fits.sfits)
 
-pub length_numbered : (bs : List ℕ) (n : ℕ) → length bs ≤ 4 → n < 2 ^ 32 → length (bs ++ decimal n) ≤ 65536
+pub length_numbered : (bs : List ℕ) (n : ℕ) → length bs ≤ 16 → n < 2 ^ 32 → length (bs ++ decimal n) ≤ 65536
 length_numbered bs n short small =
     omega (arith, length-append bs (decimal n), length-decimal-le 10 n (omega arith) (omega arith) (omega arith))
 
