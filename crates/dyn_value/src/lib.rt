@@ -11,6 +11,9 @@ mod quote;
 mod text;
 mod value;
 
+#[cfg(test)]
+mod tests;
+
 pub use fault::Fault;
 pub use operations::{binary, unary};
 pub use operator::{BinOp, UnOp};
