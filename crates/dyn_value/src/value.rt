@@ -105,6 +105,10 @@ impl Value {
         ensures appended { OnOk result (out.new.items ≡ out.old.items ++ encode_utf8_all (plain self.now)) }
         ensures refused { OnErr result (out.new.items ≡ out.old.items) }
     {
+        // A text stands in UTF-8 already.
+        if let Value::Text(text) = self {
+            return out.extend_from_slice(text.as_str().as_bytes());
+        }
         let text = self.plain_text(*out.allocator())?;
         out.extend_from_slice(text.as_bytes())
     }

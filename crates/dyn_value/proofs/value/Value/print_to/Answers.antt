@@ -7,5 +7,5 @@ use Rattle.dyn_value.proofs.value.Value.print_to.Goals as goal
 pub returns-clause-appended : goal.returns-clause-appended
 returns-clause-appended c =
     let text = c.in_ok-text.text in
-    let bytes = bytes_of_view (string_bytes text) (plain c.args.self.now) (IsUtf8-string_bytes text) c.in_ok-text.ensures.characters ∙ sym c.as_bytes.ensures.value in
-    appended c.extend_from_slice.result c.args.out.now.items c.extend_from_slice.new.self.items c.as_bytes.result.now (plain c.args.self.now) bytes c.extend_from_slice.ensures.items
+    let bytes = bytes_of_view (string_bytes text) (plain c.args.self.now) (IsUtf8-string_bytes text) c.in_ok-text.ensures.characters ∙ sym c.as_bytes-2.ensures.value in
+    appended c.extend_from_slice-2.result c.args.out.now.items c.extend_from_slice-2.new.self.items c.as_bytes-2.result.now (plain c.args.self.now) bytes c.extend_from_slice-2.ensures.items
