@@ -28,14 +28,14 @@ chars_joined bs ds cs es bt dt bv dv = chars-append bs ds bt ∙ ap (λ x. x ++ 
 pub length_joined : (bs ds cs es : List ℕ) → IsUtf8 bs → IsUtf8 ds → chars bs ≡ cs → chars ds ≡ es → length (encode_utf8_all (cs ++ es)) ≡ length bs + length ds
 length_joined bs ds cs es bt dt bv dv =
     ap length (encodes-append cs es) ∙ length-append (encode_utf8_all cs) (encode_utf8_all es)
-      ∙ ap (λ x. length x + length (encode_utf8_all es)) (bytes_of_view bs cs bt bv)
-      ∙ ap (λ x. length bs + length x) (bytes_of_view ds es dt dv)
+    ∙ ap (λ x. length x + length (encode_utf8_all es)) (bytes_of_view bs cs bt bv)
+    ∙ ap (λ x. length bs + length x) (bytes_of_view ds es dt dv)
 
 -- one more character at the end
 pub chars_pushed : (bs : List ℕ) (c : ℕ) → IsUtf8 bs → IsScalar c → chars (bs ++ encode_utf8 c) ≡ chars bs ++ c ∷ []
 chars_pushed bs c text scalar =
     chars-append bs (encode_utf8 c) text
-      ∙ ap (λ x. chars bs ++ x) (chars_past_char (encode_utf8 c) [] c (IsUtf8-encode c scalar) (sym (append-nil (encode_utf8 c))) ∙ ap (λ x. c ∷ x) chars-nil)
+    ∙ ap (λ x. chars bs ++ x) (chars_past_char (encode_utf8 c) [] c (IsUtf8-encode c scalar) (sym (append-nil (encode_utf8 c))) ∙ ap (λ x. c ∷ x) chars-nil)
 
 -- a text at the end
 pub chars_extended : (bs ds cs : List ℕ) → IsUtf8 bs → chars ds ≡ cs → chars (bs ++ ds) ≡ chars bs ++ cs

@@ -8,11 +8,10 @@ mod operations;
 mod operator;
 mod outcome;
 mod quote;
-mod text;
-mod value;
-
 #[cfg(test)]
 mod tests;
+mod text;
+mod value;
 
 pub use fault::Fault;
 pub use operations::{binary, unary};

@@ -28,7 +28,12 @@ fn operations_on_numbers(rt: HostRuntime) -> Result<(), Fail> {
         (BinOp::Subtract, i64::MIN, 1, "Overflow"),
         (BinOp::Multiply, i64::MAX, -1, "-9223372036854775807"),
         (BinOp::Multiply, i64::MIN, -1, "Overflow"),
-        (BinOp::Multiply, 3037000499, 3037000499, "9223372030926249001"),
+        (
+            BinOp::Multiply,
+            3037000499,
+            3037000499,
+            "9223372030926249001",
+        ),
         (BinOp::Multiply, 3037000500, 3037000500, "Overflow"),
         (BinOp::Divide, 7, -2, "-3"),
         (BinOp::Divide, -7, 2, "-3"),
@@ -50,7 +55,11 @@ fn operations_on_numbers(rt: HostRuntime) -> Result<(), Fail> {
     ];
     for (op, left, right, want) in rows {
         let answer = binary(rt.alloc(), op, &Value::Int(left), &Value::Int(right))?;
-        assert_eq!(rt; printed(rt.alloc(), &answer)?.as_slice(), want.as_bytes(), "{op:?} {left} {right}");
+        assert_eq!(rt;
+            printed(rt.alloc(), &answer)?.as_slice(),
+            want.as_bytes(),
+            "{op:?} {left} {right}"
+        );
     }
     Ok(())
 }
@@ -59,7 +68,12 @@ fn operations_on_numbers(rt: HostRuntime) -> Result<(), Fail> {
 fn operations_on_texts(rt: HostRuntime) -> Result<(), Fail> {
     let rows = [
         (BinOp::Add, "", "", ""),
-        (BinOp::Add, "a\u{e9}", "\u{20ac}\u{1d11e}", "a\u{e9}\u{20ac}\u{1d11e}"),
+        (
+            BinOp::Add,
+            "a\u{e9}",
+            "\u{20ac}\u{1d11e}",
+            "a\u{e9}\u{20ac}\u{1d11e}",
+        ),
         (BinOp::Equal, "\u{e9}", "\u{e9}", "true"),
         (BinOp::Equal, "\u{e9}", "e\u{301}", "false"),
         (BinOp::NotEqual, "a", "A", "true"),
@@ -82,7 +96,11 @@ fn operations_on_texts(rt: HostRuntime) -> Result<(), Fail> {
             Value::Text(text(rt.alloc(), right)?),
         );
         let answer = binary(rt.alloc(), op, &values.0, &values.1)?;
-        assert_eq!(rt; printed(rt.alloc(), &answer)?.as_slice(), want.as_bytes(), "{op:?} {left} {right}");
+        assert_eq!(rt;
+            printed(rt.alloc(), &answer)?.as_slice(),
+            want.as_bytes(),
+            "{op:?} {left} {right}"
+        );
     }
     Ok(())
 }
@@ -118,11 +136,20 @@ fn long_texts(rt: HostRuntime) -> Result<(), Fail> {
             want.clear();
             want.extend_from_slice(b"TextLong")?;
         }
-        assert!(rt; printed(rt.alloc(), &answer)? == want, "{character} {count} {next}");
+        assert!(rt;
+            printed(rt.alloc(), &answer)? == want,
+            "{character} {count} {next}"
+        );
     }
     let longest = repeated(rt.alloc(), 'a', 65_536)?;
     assert!(rt; longest.as_str().len() == DynText::MOST_BYTES);
-    assert!(rt; DynText::from_str(rt.alloc(), format!(in rt.alloc(); "{}b", longest.as_str())?.as_str())?.is_none());
+    assert!(rt;
+        DynText::from_str(
+            rt.alloc(),
+            format!(in rt.alloc(); "{}b", longest.as_str())?.as_str()
+        )?
+        .is_none()
+    );
     Ok(())
 }
 
@@ -131,10 +158,25 @@ fn operations_on_other_kinds(rt: HostRuntime) -> Result<(), Fail> {
     let rows = [
         (BinOp::Add, Value::Nil, Value::Int(1), "NoOperator"),
         (BinOp::Add, Value::Int(1), Value::Nil, "NoOperator"),
-        (BinOp::Subtract, Value::Bool(true), Value::Bool(true), "NoOperator"),
-        (BinOp::Divide, Value::Int(1), Value::Bool(false), "NoOperator"),
+        (
+            BinOp::Subtract,
+            Value::Bool(true),
+            Value::Bool(true),
+            "NoOperator",
+        ),
+        (
+            BinOp::Divide,
+            Value::Int(1),
+            Value::Bool(false),
+            "NoOperator",
+        ),
         (BinOp::LessThan, Value::Fun(0), Value::Fun(1), "NoOperator"),
-        (BinOp::GreaterThan, Value::Obj(1), Value::Obj(0), "NoOperator"),
+        (
+            BinOp::GreaterThan,
+            Value::Obj(1),
+            Value::Obj(0),
+            "NoOperator",
+        ),
         (BinOp::And, Value::Bool(true), Value::Bool(false), "false"),
         (BinOp::And, Value::Bool(true), Value::Nil, "NoOperator"),
         (BinOp::Or, Value::Bool(true), Value::Bool(false), "true"),
@@ -148,7 +190,11 @@ fn operations_on_other_kinds(rt: HostRuntime) -> Result<(), Fail> {
     ];
     for (op, left, right, want) in &rows {
         let answer = binary(rt.alloc(), *op, left, right)?;
-        assert_eq!(rt; printed(rt.alloc(), &answer)?.as_slice(), want.as_bytes(), "{op:?} {left:?} {right:?}");
+        assert_eq!(rt;
+            printed(rt.alloc(), &answer)?.as_slice(),
+            want.as_bytes(),
+            "{op:?} {left:?} {right:?}"
+        );
     }
     Ok(())
 }
@@ -171,7 +217,11 @@ fn operations_on_one_value(rt: HostRuntime) -> Result<(), Fail> {
     ];
     for (op, value, want) in &rows {
         let answer = unary(*op, value);
-        assert_eq!(rt; printed(rt.alloc(), &answer)?.as_slice(), want.as_bytes(), "{op:?} {value:?}");
+        assert_eq!(rt;
+            printed(rt.alloc(), &answer)?.as_slice(),
+            want.as_bytes(),
+            "{op:?} {value:?}"
+        );
     }
     Ok(())
 }
@@ -183,9 +233,17 @@ fn texts_of_values(rt: HostRuntime) -> Result<(), Fail> {
         (Value::Nil, "nil", "nil"),
         (Value::Bool(true), "true", "true"),
         (Value::Bool(false), "false", "false"),
-        (Value::Int(i64::MIN), "-9223372036854775808", "-9223372036854775808"),
+        (
+            Value::Int(i64::MIN),
+            "-9223372036854775808",
+            "-9223372036854775808",
+        ),
         (Value::Int(0), "0", "0"),
-        (Value::Text(marks), "a\"\\\n\t\u{e9}\r'", "\"a\\\"\\\\\\n\\t\u{e9}\r'\""),
+        (
+            Value::Text(marks),
+            "a\"\\\n\t\u{e9}\r'",
+            "\"a\\\"\\\\\\n\\t\u{e9}\r'\"",
+        ),
         (Value::Fun(255), "fn#255", "fn#255"),
         (Value::Obj(4095), "obj#4095", "obj#4095"),
     ];
@@ -211,7 +269,10 @@ fn texts_of_faults(rt: HostRuntime) -> Result<(), Fail> {
         (Fault::NotIndexable(Kind::Nil), "NotIndexable Nil"),
         (Fault::NotCallable(Kind::Int), "NotCallable Int"),
         (Fault::WrongCount(2, 1), "WrongCount 2 1"),
-        (Fault::NoParameter(text(rt.alloc(), "a\"b")?), "NoParameter \"a\\\"b\""),
+        (
+            Fault::NoParameter(text(rt.alloc(), "a\"b")?),
+            "NoParameter \"a\\\"b\"",
+        ),
         (Fault::NoOperator, "NoOperator"),
         (Fault::NoConvert, "NoConvert"),
         (Fault::NotCreatable(Kind::Text), "NotCreatable Text"),
@@ -227,7 +288,10 @@ fn texts_of_faults(rt: HostRuntime) -> Result<(), Fail> {
         let mut out = Vec::new(rt.alloc());
         out.push(b'>')?;
         fault.print_to(&mut out)?;
-        assert_eq!(rt; out.as_slice(), format!(in rt.alloc(); ">{want}")?.as_bytes());
+        assert_eq!(rt;
+            out.as_slice(),
+            format!(in rt.alloc(); ">{want}")?.as_bytes()
+        );
         assert!(rt; fault.same(&fault.copy()?));
     }
     Ok(())

@@ -5,9 +5,8 @@ ghost use Rattle.std.specs.Str.{chars};
 ghost use Rattle.dyn_value.specs.Kinds.{kind_of};
 ghost use Rattle.dyn_value.specs.Texts.{kind_name, plain, quoted};
 
-use crate::label;
-use crate::quote;
 use crate::text::DynText;
+use crate::{label, quote};
 use std::alloc::{AllocError, Global};
 
 /// The kinds of values.

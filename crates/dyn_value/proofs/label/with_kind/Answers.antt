@@ -12,4 +12,4 @@ returns c =
     let label = c.args.label.now in
     let name = c.name-kind.result.now in
     chars_made c.format.result (label ++ name) (label ++ kind_name c.args.kind)
-      (chars_labelled label name c.requires (ascii_label name c.name-kind.ensures.ascii) ∙ ap (λ x. label ++ x) c.name-kind.ensures.name) (written c)
+    (chars_labelled label name c.requires (ascii_label name c.name-kind.ensures.ascii) ∙ ap (λ x. label ++ x) c.name-kind.ensures.name) (written c)

@@ -13,5 +13,5 @@ returns c =
     let first = decimal c.args.first in
     let second = decimal c.args.second in
     chars_made c.format.result (label ++ (first ++ 32 ∷ second)) (label ++ first ++ 32 ∷ second)
-      (chars_labelled label (first ++ 32 ∷ second) c.requires (ascii_numbers c.args.first c.args.second (omega (arith, c.ranges.first)) (omega (arith, c.ranges.second))) ∙ sym (append_assoc label first (32 ∷ second)))
-      (written c)
+    (chars_labelled label (first ++ 32 ∷ second) c.requires (ascii_numbers c.args.first c.args.second (omega (arith, c.ranges.first)) (omega (arith, c.ranges.second))) ∙ sym (append_assoc label first (32 ∷ second)))
+    (written c)

@@ -14,6 +14,6 @@ returns c =
     let label = c.args.label.now in
     let text = string_bytes c.in_ok-text.text in
     chars_made c.format.result (label ++ text) (label ++ quoted_text c.args.text.now)
-      (chars_extended label text (quoted_text c.args.text.now) (IsUtf8-from_ascii label (ascii_label label c.requires)) c.in_ok-text.ensures
-        ∙ ap (λ x. x ++ quoted_text c.args.text.now) (chars_label label c.requires))
-      (written c)
+    (chars_extended label text (quoted_text c.args.text.now) (IsUtf8-from_ascii label (ascii_label label c.requires)) c.in_ok-text.ensures
+    ∙ ap (λ x. x ++ quoted_text c.args.text.now) (chars_label label c.requires))
+    (written c)

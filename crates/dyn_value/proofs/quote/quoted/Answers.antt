@@ -24,5 +24,5 @@ returns c =
     let text : chars c.as_str.result.now ≡ c.args.text.now = ap chars c.as_str.ensures.bytes ∙ chars-encodes c.args.text.now c.as_str.ensures.proper.0 in
     let last : string_bytes c.push.new.self ≡ string_bytes written ++ 34 ∷ [] = c.in_ok-push.ensures.bytes ∙ ap (λ x. string_bytes written ++ x) (c.in_ok-push.ensures.ascii (omega arith)) in
     ap chars last ∙ chars_extended (string_bytes written) (34 ∷ []) (34 ∷ []) (IsUtf8-string_bytes written) quotation_mark
-      ∙ ap (λ x. x ++ 34 ∷ []) c.loop-character.invariant
-      ∙ ap (λ x. 34 ∷ (flat_map escaped x ++ 34 ∷ [])) (sym (map-id c.loop-character.yielded) ∙ all.0 ∙ text)
+    ∙ ap (λ x. x ++ 34 ∷ []) c.loop-character.invariant
+    ∙ ap (λ x. 34 ∷ (flat_map escaped x ++ 34 ∷ [])) (sym (map-id c.loop-character.yielded) ∙ all.0 ∙ text)

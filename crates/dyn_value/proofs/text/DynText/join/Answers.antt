@@ -22,7 +22,7 @@ returns-clause-characters c =
     let mine = c.self.inside.text in
     let theirs = c.next.inside.text in
     let bytes : string_bytes c.push_str-2.new.self ≡ string_bytes mine ++ string_bytes theirs =
-      c.in_ok-push_str-2.ensures.bytes ∙ grind (arith, c.in_ok-push_str.ensures.bytes, c.in_ok-text.ensures.bytes, c.as_str.ensures.value, c.as_str-2.ensures.value) in
+    c.in_ok-push_str-2.ensures.bytes ∙ grind (arith, c.in_ok-push_str.ensures.bytes, c.in_ok-text.ensures.bytes, c.as_str.ensures.value, c.as_str-2.ensures.value) in
     ap chars bytes ∙ chars_joined (string_bytes mine) (string_bytes theirs) c.args.self.now c.args.next.now (IsUtf8-string_bytes mine) (IsUtf8-string_bytes theirs) c.self.view_is c.next.view_is
 
 pub returns-clause-fits : goal.returns-clause-fits
