@@ -47,7 +47,8 @@ pub(crate) fn with_numbers(
     second: u32,
 ) -> Result<String, AllocError>
     requires { IsTrue (list_all is_ascii label.now) }
-    ensures { IfOk result (λ s. chars (string_bytes s) ≡ label.now ++ decimal first ++ 32 ∷ decimal second) }
+    ensures { IfOk result (λ s.
+        chars (string_bytes s) ≡ label.now ++ decimal first ++ 32 ∷ decimal second) }
 {
     format!(in alloc; "{label}{first} {second}")
 }

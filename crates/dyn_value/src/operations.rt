@@ -132,7 +132,9 @@ fn remainder(left: &Value, right: &Value) -> Result<Value, Fault>
 
 /// How two numbers, or the bytes of two texts, are ordered; `NoOperator` for other kinds.
 fn order(left: &Value, right: &Value) -> Result<Ordering, Fault>
-    ensures { MatchResult result (λ o. (p : Ordering → Bool) → on_ordered p left.now right.now ≡ truth (p o)) (λ f. (p : Ordering → Bool) → on_ordered p left.now right.now ≡ Err f) }
+    ensures { MatchResult result
+        (λ order. (test : Ordering → Bool) → on_ordered test left.now right.now ≡ truth (test order))
+        (λ fault. (test : Ordering → Bool) → on_ordered test left.now right.now ≡ Err fault) }
 {
     match (left, right) {
         (Value::Int(left), Value::Int(right)) => Ok(left.cmp(right)),

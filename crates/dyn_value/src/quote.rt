@@ -20,7 +20,8 @@ pub(crate) fn quoted(alloc: Global, text: &DynText) -> Result<String, AllocError
 
 /// Appends the character, or its escape.
 fn push_escaped(out: &mut String, character: char) -> Result<(), AllocError>
-    ensures { OnOk result (chars (string_bytes out.new) ≡ chars (string_bytes out.old) ++ escaped character) }
+    ensures { OnOk result
+        (chars (string_bytes out.new) ≡ chars (string_bytes out.old) ++ escaped character) }
 {
     match escape(character) {
         Some(escape) => out.push_str(escape),
@@ -30,7 +31,9 @@ fn push_escaped(out: &mut String, character: char) -> Result<(), AllocError>
 
 /// The escape of a character that has one.
 fn escape(character: char) -> Option<&'static str>
-    ensures { MatchOption result (escaped character ≡ character ∷ []) (λ e. chars e.now ≡ escaped character) }
+    ensures { MatchOption result
+        (escaped character ≡ character ∷ [])
+        (λ e. chars e.now ≡ escaped character) }
 {
     match character {
         '"' => Some("\\\""),

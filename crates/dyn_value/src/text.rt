@@ -82,8 +82,12 @@ impl DynText {
     /// This text with `next` after it; `None` exactly where that has more than
     /// [`DynText::MOST_BYTES`] bytes.
     pub(crate) fn join(&self, alloc: Global, next: &DynText) -> Result<Option<DynText>, AllocError>
-        ensures characters { IfOk result (λ o. MatchOption o (65536 < length (encode_utf8_all (self.now ++ next.now))) (λ t. t ≡ self.now ++ next.now)) }
-        ensures fits { IfOk result (λ o. MatchOption o (65536 < length (encode_utf8_all (self.now ++ next.now))) (λ _. length (encode_utf8_all (self.now ++ next.now)) ≤ 65536)) }
+        ensures characters { IfOk result (λ o. MatchOption o
+            (65536 < length (encode_utf8_all (self.now ++ next.now)))
+            (λ t. t ≡ self.now ++ next.now)) }
+        ensures fits { IfOk result (λ o. MatchOption o
+            (65536 < length (encode_utf8_all (self.now ++ next.now)))
+            (λ _. length (encode_utf8_all (self.now ++ next.now)) ≤ 65536)) }
     {
         let bytes = self.text.len() + next.text.len();
         if bytes > DynText::MOST_BYTES {

@@ -1,12 +1,9 @@
-use Rattle.std.proofs.Common.{◌≡◌, ℕ, ◌<◌, ◌-◌, ◌^◌, ℤ, pos, negsuc, false, FitsSigned, to_z, of_z, refl, subst, arith, ◌∙◌}
-use Rattle.std.specs.Prelude.{Option, Some, None, int_div, if◌then◌else◌, Result, Err}
+use Rattle.std.proofs.Common.{◌≡◌, ℤ, pos, negsuc, false, FitsSigned, of_z, refl, arith, ◌∙◌}
+use Rattle.std.specs.Prelude.{Option, Some, None, int_div}
 use Rattle.std.specs.Int.{w64, IsNonZero, CanDivide}
 use Rattle.std.specs.Ordering.{int_eq}
 use Rattle.std.specs.Option.{SomeIff}
 use Rattle.std.proofs.lemmas.Int.{ints, to_z-of_z}
-use Rattle.dyn_value.specs.declared.value.Value.{Value}
-use Rattle.dyn_value.specs.declared.fault.Fault.{Fault}
-use Rattle.dyn_value.specs.Operations.{whole, quotient_of}
 use Rattle.dyn_value.proofs.arithmetic.quotient.Goals as goal
 
 -- a number that can be divided is one whose quotient fits, once the divisor is not 0

@@ -1,6 +1,5 @@
 use Rattle.std.proofs.Common.{◌≡◌, ap, ◌∙◌, ◌++◌, rules, string_bytes}
 use Rattle.std.specs.Prelude.{IfOk}
-use Rattle.std.specs.Str.{chars}
 use Rattle.std.proofs.lemmas.Str.{IsUtf8-from_ascii}
 use Rattle.dyn_value.specs.Texts.{quoted_text}
 use Rattle.dyn_value.proofs.Encoding.{chars_made, chars_extended, ascii_label, chars_label}
