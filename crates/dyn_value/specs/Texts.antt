@@ -31,6 +31,11 @@ escaped c =
 abbrev pub quoted_text : List ℕ → List ℕ
 quoted_text cs = 34 ∷ flat_map escaped cs ++ 34 ∷ []
 
+-- the quoted text of a value: a text stands between quotation marks
+abbrev pub quoted : Value → List ℕ
+quoted (value.Text t) = quoted_text t
+quoted v = plain v
+
 abbrev pub kind_name : Kind → List ℕ
 kind_name kind.Nil = codes "Nil"
 kind_name kind.Bool = codes "Bool"

@@ -1,9 +1,11 @@
-ghost use Rattle.std.specs.Prelude.{◌≡◌, ◌++◌, IfOk, OnOk, OnErr, encode_utf8_all};
+ghost use Rattle.std.specs.Prelude.{◌≡◌, ◌↔◌, ◌++◌, IsTrue, IfOk, OnOk, OnErr, encode_utf8_all, string_bytes};
+ghost use Rattle.std.specs.Str.{chars};
 ghost use Rattle.dyn_value.specs.Texts.{fault_text};
 
+use crate::label;
 use crate::text::DynText;
 use crate::value::Kind;
-use std::alloc::AllocError;
+use std::alloc::{AllocError, Global};
 
 /// Why an operation gave no value. A fault ends its task unless it is caught.
 #[derive(Debug, Drop)]
@@ -43,6 +45,33 @@ pub enum Fault {
 }
 
 impl Fault {
+    /// Whether the two faults have the same name and the same parts.
+    pub fn same(&self, other: &Fault) -> bool
+        ensures { IsTrue result ↔ (self.now ≡ other.now) }
+    {
+        match (self, other) {
+            (Fault::NoMember(mine), Fault::NoMember(theirs)) => mine.same(theirs),
+            (Fault::NoIndex, Fault::NoIndex) => true,
+            (Fault::NotIndexable(mine), Fault::NotIndexable(theirs)) => mine == theirs,
+            (Fault::NotCallable(mine), Fault::NotCallable(theirs)) => mine == theirs,
+            (Fault::WrongCount(mine, count), Fault::WrongCount(theirs, given)) => {
+                mine == theirs && count == given
+            }
+            (Fault::NoParameter(mine), Fault::NoParameter(theirs)) => mine.same(theirs),
+            (Fault::NoOperator, Fault::NoOperator) => true,
+            (Fault::NoConvert, Fault::NoConvert) => true,
+            (Fault::NotCreatable(mine), Fault::NotCreatable(theirs)) => mine == theirs,
+            (Fault::Overflow, Fault::Overflow) => true,
+            (Fault::ZeroDivide, Fault::ZeroDivide) => true,
+            (Fault::TextLong, Fault::TextLong) => true,
+            (Fault::MembersFull, Fault::MembersFull) => true,
+            (Fault::HeapFull, Fault::HeapFull) => true,
+            (Fault::Depth, Fault::Depth) => true,
+            (Fault::Turns, Fault::Turns) => true,
+            _ => false,
+        }
+    }
+
     /// An equal fault.
     pub fn copy(&self) -> Result<Fault, AllocError>
         ensures { IfOk result (λ f. f ≡ self.now) }
@@ -72,8 +101,32 @@ impl Fault {
         ensures appended { OnOk result (out.new.items ≡ out.old.items ++ encode_utf8_all (fault_text self.now)) }
         ensures refused { OnErr result (out.new.items ≡ out.old.items) }
     {
-        let _fault = self.copy()?;
-        out.reserve(1)?;
-        Err(AllocError)
+        let text = self.text(*out.allocator())?;
+        out.extend_from_slice(text.as_bytes())
+    }
+
+    fn text(&self, alloc: Global) -> Result<String, AllocError>
+        ensures { IfOk result (λ s. chars (string_bytes s) ≡ fault_text self.now) }
+    {
+        match self {
+            Fault::NoMember(name) => label::with_text(alloc, "NoMember ", name),
+            Fault::NoIndex => label::alone(alloc, "NoIndex"),
+            Fault::NotIndexable(kind) => label::with_kind(alloc, "NotIndexable ", *kind),
+            Fault::NotCallable(kind) => label::with_kind(alloc, "NotCallable ", *kind),
+            Fault::WrongCount(parameters, count) => {
+                label::with_numbers(alloc, "WrongCount ", *parameters, *count)
+            }
+            Fault::NoParameter(name) => label::with_text(alloc, "NoParameter ", name),
+            Fault::NoOperator => label::alone(alloc, "NoOperator"),
+            Fault::NoConvert => label::alone(alloc, "NoConvert"),
+            Fault::NotCreatable(kind) => label::with_kind(alloc, "NotCreatable ", *kind),
+            Fault::Overflow => label::alone(alloc, "Overflow"),
+            Fault::ZeroDivide => label::alone(alloc, "ZeroDivide"),
+            Fault::TextLong => label::alone(alloc, "TextLong"),
+            Fault::MembersFull => label::alone(alloc, "MembersFull"),
+            Fault::HeapFull => label::alone(alloc, "HeapFull"),
+            Fault::Depth => label::alone(alloc, "Depth"),
+            Fault::Turns => label::alone(alloc, "Turns"),
+        }
     }
 }

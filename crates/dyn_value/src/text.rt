@@ -1,4 +1,4 @@
-ghost use Rattle.std.specs.Prelude.{◌≡◌, ◌<◌, ◌≤◌, length, encode_utf8_all, IfOk, MatchOption};
+ghost use Rattle.std.specs.Prelude.{◌≡◌, ◌↔◌, ◌<◌, ◌≤◌, ◌++◌, length, encode_utf8_all, IfOk, IsTrue, MatchOption, string_bytes, string_len};
 ghost use Rattle.std.specs.Str.{chars};
 ghost use Rattle.dyn_value.specs.Proper.{IsText};
 
@@ -40,6 +40,14 @@ impl DynText {
         Ok(Some(DynText { text }))
     }
 
+    /// The text of a string that is short enough.
+    pub(crate) fn from_string(text: String) -> DynText
+        requires { string_len text ≤ 65536 }
+        ensures { result ≡ chars (string_bytes text) }
+    {
+        DynText { text }
+    }
+
     /// The text as UTF-8.
     pub fn as_str(&self) -> &str
         ensures bytes { result.now ≡ encode_utf8_all self.now }
@@ -48,11 +56,46 @@ impl DynText {
         self.text.as_str()
     }
 
+    /// The text as a string of its own.
+    pub(crate) fn to_string(&self, alloc: Global) -> Result<String, AllocError>
+        ensures characters { IfOk result (λ s. chars (string_bytes s) ≡ self.now) }
+        ensures fits { IfOk result (λ s. string_len s ≤ 65536) }
+    {
+        String::from_str(alloc, self.text.as_str())
+    }
+
     /// An equal text.
     pub fn copy(&self) -> Result<DynText, AllocError>
         ensures { IfOk result (λ t. t ≡ self.now) }
     {
         let text = self.text.clone()?;
         Ok(DynText { text })
+    }
+
+    /// Whether the two texts have the same characters.
+    pub fn same(&self, other: &DynText) -> bool
+        ensures { IsTrue result ↔ (self.now ≡ other.now) }
+    {
+        self.text.as_str() == other.text.as_str()
+    }
+
+    /// This text with `next` after it; `None` exactly where that has more than
+    /// [`DynText::MOST_BYTES`] bytes.
+    pub(crate) fn join(&self, alloc: Global, next: &DynText) -> Result<Option<DynText>, AllocError>
+        ensures characters { IfOk result (λ o. MatchOption o
+            (65536 < length (encode_utf8_all (self.now ++ next.now)))
+            (λ t. t ≡ self.now ++ next.now)) }
+        ensures fits { IfOk result (λ o. MatchOption o
+            (65536 < length (encode_utf8_all (self.now ++ next.now)))
+            (λ _. length (encode_utf8_all (self.now ++ next.now)) ≤ 65536)) }
+    {
+        let bytes = self.text.len() + next.text.len();
+        if bytes > DynText::MOST_BYTES {
+            return Ok(None);
+        }
+        let mut text = String::with_capacity(alloc, bytes)?;
+        text.push_str(self.text.as_str())?;
+        text.push_str(next.text.as_str())?;
+        Ok(Some(DynText { text }))
     }
 }
