@@ -1,4 +1,5 @@
 pub mod Forms
+pub mod Fronts
 pub mod Grammar
 pub mod Halts
 pub mod Lexemes

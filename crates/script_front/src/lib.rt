@@ -7,6 +7,7 @@ mod limits;
 mod parser;
 mod program;
 mod reading;
+mod shallow;
 mod token;
 mod tree;
 

@@ -1,0 +1,9 @@
+pub mod FirstCharacters
+pub mod LexemeRuns
+pub mod FrontPieces
+pub mod TokenMeanings
+pub mod PieceRows
+pub mod SymbolFronts
+pub mod TextFronts
+pub mod WordFronts
+pub mod IntegerFronts

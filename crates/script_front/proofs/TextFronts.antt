@@ -1,0 +1,79 @@
+-- From the lexeme, blank or comment at the front of a text to what stands there.
+use Rattle.std.proofs.Common.{◌≡◌, ◌≢◌, ℕ, suc, ◌+◌, ◌<◌, ◌≤◌, Bool, true, false, not, cond, List, [], ◌∷◌, ◌++◌, length, get_or, take, drop, refl, sym, ◌∙◌, ap, subst, arith, take-append-drop}
+use Rattle.std.specs.Prelude.{◌==◌, Option, Some, None}
+use Rattle.std.specs.List.{list_all, prefix_len}
+use Rattle.std.specs.Char.{is_ascii_digit}
+use Rattle.std.proofs.lemmas.Bool.{eqb-true}
+use Rattle.std.proofs.lemmas.Bool.Decides.{nat_tests}
+use Rattle.std.proofs.lemmas.List.Sums.{prefix_len-le-length}
+use Rattle.script_front.specs.declared.token.Token.{Token}
+use Rattle.script_front.specs.Lexemes.{is_blank, starts_word, Longest, Means, EndsLine, HasNoLineFeed, BeginsNoToken}
+use Rattle.script_front.specs.Lexemes.Piece.{Blank, Comment, Lexeme}
+use Rattle.script_front.specs.Fronts.{BeginsWord, BeginsDigits, BeginsOther, MeansNothing, IsFront}
+use Rattle.script_front.proofs.FrontPieces.{bad_lexeme}
+use Rattle.script_front.proofs.LexemeRuns.{StopsAt, run_passes, run_stops, one_passes, both_pass}
+
+-- a token at the front
+pub lexeme_front : (cs : List ℕ) (n : ℕ) (t : Token) → 0 < n → n ≤ length cs → Longest (take n cs) (drop n cs) → Means (take n cs) t
+    → IsFront cs (record { length = n; token = Some t })
+lexeme_front cs n t some within longest means = record {
+  some = some;
+  within = within;
+  piece = Lexeme (take n cs);
+  text = sym (take-append-drop n cs);
+  stands = longest;
+  tokens = (means, refl);
+}
+
+-- a lexeme at the front that means no token
+pub lexeme_bad : (cs : List ℕ) (n : ℕ) → Longest (take n cs) (drop n cs) → MeansNothing (take n cs) → BeginsNoToken cs
+lexeme_bad cs n longest nothing = bad_lexeme (take n cs) (drop n cs) cs (sym (take-append-drop n cs)) longest nothing
+
+pub blank_front : (cs : List ℕ) → cs ≢ [] → is_blank (get_or cs 0 0) ≡ true → IsFront cs (record { length = 1; token = None })
+blank_front [] some blank = absurd (some refl)
+blank_front (c ∷ cs) some blank = record { some = omega arith; within = omega arith; piece = Blank c; text = refl; stands = blank; tokens = refl }
+
+no_ten : (c : ℕ) → not (c == 10) ≡ true → c ≢ 10
+no_ten c pass is = grind (arith, nat_tests)
+
+no_line_feed : (cs : List ℕ) → list_all (λ c. not (c == 10)) cs ≡ true → HasNoLineFeed cs
+no_line_feed [] pass = tt
+no_line_feed (c ∷ cs) pass =
+    let rest = list_all (λ c. not (c == 10)) cs in
+    (no_ten c (one_passes (not (c == 10)) rest pass), no_line_feed cs (both_pass (not (c == 10)) rest pass))
+
+ends_line : (cs : List ℕ) → StopsAt (λ c. not (c == 10)) cs → EndsLine cs
+ends_line [] stop = tt
+ends_line (c ∷ cs) stop = grind (arith, nat_tests)
+
+comment_at : (cs : List ℕ) → IsFront (35 ∷ cs) (record { length = prefix_len (λ c. not (c == 10)) (35 ∷ cs); token = None })
+comment_at cs =
+    let no_ten : ℕ → Bool = λ c. not (c == 10) in
+    let begun : 1 + prefix_len no_ten cs ≡ suc (prefix_len no_ten cs) = omega arith in
+    record {
+      some = omega arith;
+      within = prefix_len-le-length no_ten (35 ∷ cs);
+      piece = Comment (take (prefix_len no_ten cs) cs);
+      text = rw begun (ap (λ x. 35 ∷ x) (sym (take-append-drop (prefix_len no_ten cs) cs)));
+      stands = (no_line_feed _ (run_passes no_ten cs), rw begun (ends_line _ (run_stops no_ten cs)));
+      tokens = refl;
+    }
+
+pub comment_front : (cs : List ℕ) → cs ≢ [] → (get_or cs 0 0 == 35) ≡ true
+    → IsFront cs (record { length = prefix_len (λ c. not (c == 10)) cs; token = None })
+comment_front [] some sign = absurd (some refl)
+comment_front (c ∷ cs) some sign =
+    subst (λ d. IsFront (d ∷ cs) (record { length = prefix_len (λ c. not (c == 10)) (d ∷ cs); token = None })) (sym (eqb-true c 35 sign)) (comment_at cs)
+
+pub begins_word : (cs : List ℕ) → cs ≢ [] → starts_word (get_or cs 0 0) ≡ true → BeginsWord cs
+begins_word [] some word = absurd (some refl)
+begins_word (c ∷ cs) some word = word
+
+pub begins_digits : (cs : List ℕ) → cs ≢ [] → is_ascii_digit (get_or cs 0 0) ≡ true → BeginsDigits cs
+begins_digits [] some digit = absurd (some refl)
+begins_digits (c ∷ cs) some digit = digit
+
+pub begins_other : (cs : List ℕ) → cs ≢ [] → is_blank (get_or cs 0 0) ≡ false → (get_or cs 0 0 == 35) ≡ false → starts_word (get_or cs 0 0) ≡ false
+    → is_ascii_digit (get_or cs 0 0) ≡ false → BeginsOther cs
+begins_other [] some blank comment word digit = absurd (some refl)
+begins_other (c ∷ cs) some blank comment word digit = (blank, comment, word, digit)
