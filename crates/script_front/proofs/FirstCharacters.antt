@@ -1,5 +1,5 @@
 -- What a character may begin: each of a blank, a comment, a word, an integer and a symbol is told by its first character.
-use Rattle.std.proofs.Common.{◌≡◌, ◌≢◌, ℕ, ◌<◌, ◌≤◌, Bool, true, false, cond, ◌||◌, List, [], ◌∷◌, ◌++◌, get_or, refl, sym, ◌∙◌, ap, subst, arith}
+use Rattle.std.proofs.Common.{◌≡◌, ◌≢◌, ℕ, ◌<◌, true, false, cond, ◌||◌, List, [], ◌∷◌, refl, sym, ◌∙◌, ap, subst, arith}
 use Rattle.std.specs.Prelude.{◌==◌}
 use Rattle.std.proofs.lemmas.Bool.{eqb-true}
 use Rattle.std.proofs.lemmas.Bool.Decides.{nat_tests}
@@ -130,6 +130,6 @@ underscore_continues = refl
 pub word_continues : (c : ℕ) → starts_word c ≡ true → is_xid_continue c ≡ true
 word_continues c starts =
     elim (is_xid_start c) as (λ a. is_xid_start c ≡ a → (a || (c == 95)) ≡ true → is_xid_continue c ≡ true) [
-      true ↦ λ is _. is_xid_start-is_xid_continue c is
-    | false ↦ λ _ is. subst (λ n. is_xid_continue n ≡ true) (sym (eqb-true c 95 is)) underscore_continues
+      | true ↦ λ is _. is_xid_start-is_xid_continue c is
+      | false ↦ λ _ is. subst (λ n. is_xid_continue n ≡ true) (sym (eqb-true c 95 is)) underscore_continues
     ] refl starts

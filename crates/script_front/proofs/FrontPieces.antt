@@ -1,10 +1,10 @@
 -- What stands at the front of a text is one piece.
-use Rattle.std.proofs.Common.{◌≡◌, ◌≢◌, ℕ, suc, ◌<◌, ◌≤◌, Bool, true, false, ◌⊎◌, inl, inr, ⊎_elim, List, [], ◌∷◌, ◌++◌, length, take, drop, refl, sym, ◌∙◌, ap, subst, append_assoc, append-nil, arith}
+use Rattle.std.proofs.Common.{◌≡◌, ◌≢◌, ℕ, ◌⊎◌, inl, inr, ⊎_elim, List, [], ◌∷◌, ◌++◌, refl, sym, ◌∙◌, ap, subst, append-nil}
 use Rattle.script_front.specs.declared.token.Token.{Token}
-use Rattle.script_front.specs.Lexemes.{is_blank, IsLexeme, Longest, Means, Piece, piece_text, EndsLine, HasNoLineFeed, Stands, AreOf, BeginsNoToken}
+use Rattle.script_front.specs.Lexemes.{IsLexeme, Longest, Piece, piece_text, EndsLine, HasNoLineFeed, Stands, AreOf, BeginsNoToken}
 use Rattle.script_front.specs.Lexemes.Piece.{Blank, Comment, Lexeme}
 use Rattle.script_front.specs.Fronts.{MeansNothing}
-use Rattle.script_front.proofs.FirstCharacters.{Kind, kind_of, first_kind, blank_kind, begins_lexeme, BeginsLexeme}
+use Rattle.script_front.proofs.FirstCharacters.{kind_of, first_kind, blank_kind, begins_lexeme}
 use Rattle.script_front.proofs.FirstCharacters.Kind.{Ends, Blanks, Comments}
 
 -- one of two beginnings of a text goes on to the other
@@ -20,9 +20,9 @@ goes_on (c ∷ cs) (d ∷ ds) a b e =
     let first : c ≡ d = cc in
     let others : cs ++ a ≡ ds ++ b = cc in
     ⊎_elim
-        (λ g. let longer = g.longer in inl (record { more = g.more; longer = cc; rest = g.rest }))
-        (λ g. let longer = g.longer in inr (record { more = g.more; longer = cc; rest = g.rest }))
-        (goes_on cs ds a b others)
+    (λ g. let longer = g.longer in inl (record { more = g.more; longer = cc; rest = g.rest }))
+    (λ g. let longer = g.longer in inr (record { more = g.more; longer = cc; rest = g.rest }))
+    (goes_on cs ds a b others)
 
 no_more : (cs ds a b more : List ℕ) → more ≡ [] → ds ≡ cs ++ more → a ≡ more ++ b → (cs ≡ ds) × (a ≡ b)
 no_more cs ds a b [] none longer rest = (sym (longer ∙ append-nil cs), rest)

@@ -1,9 +1,12 @@
 -- The row of pieces that a text is: it grows at its end, and there is one for a text.
-use Rattle.std.proofs.Common.{◌≡◌, ◌≢◌, ℕ, suc, ◌+◌, ◌<◌, ◌≤◌, Bool, true, false, List, [], ◌∷◌, ◌++◌, length, drop, refl, sym, ◌∙◌, ap, subst, append_assoc, append-nil, arith}
+use Rattle.std.proofs.Common.{◌≡◌, ℕ, ◌+◌, ◌≤◌, List, [], ◌∷◌, ◌++◌, length, drop, refl, sym, ◌∙◌, ap, subst, append_assoc, append-nil, length-drop, arith}
+use Rattle.std.proofs.lemmas.List.{drop-drop, drop_all}
 use Rattle.std.proofs.lemmas.Grind.{flat_map-append}
 use Rattle.script_front.specs.declared.token.Token.{Token}
-use Rattle.script_front.specs.Lexemes.{Means, Piece, piece_text, row_text, Stands, IsRow, AreOf, AreTokens, BeginsNoToken, LexesTo}
+use Rattle.script_front.specs.Lexemes.{Piece, piece_text, row_text, Stands, IsRow, AreOf, AreTokens, BeginsNoToken, LexesTo}
 use Rattle.script_front.specs.Lexemes.Piece.{Blank, Comment, Lexeme}
+use Rattle.script_front.specs.declared.lexer.front.Front.{Front}
+use Rattle.script_front.specs.Fronts.{tokens_of, IsFront}
 use Rattle.script_front.proofs.FrontPieces.{front_same, piece_begins}
 use Rattle.script_front.proofs.TokenMeanings.{means_same}
 
@@ -20,7 +23,7 @@ nothing_taken text = record { row = []; whole = refl; stands = tt; tokens = refl
 row_text_push : (row : List Piece) (p : Piece) (from rest : List ℕ) → from ≡ piece_text p ++ rest → row_text row ++ from ≡ row_text (row ++ p ∷ []) ++ rest
 row_text_push row p from rest is =
     let longer : row_text (row ++ p ∷ []) ≡ row_text row ++ piece_text p
-          = flat_map-append piece_text row (p ∷ []) ∙ ap (λ x. row_text row ++ x) (append-nil (piece_text p)) in
+    = flat_map-append piece_text row (p ∷ []) ∙ ap (λ x. row_text row ++ x) (append-nil (piece_text p)) in
     ap (λ x. row_text row ++ x) is ∙ sym (append_assoc (row_text row) (piece_text p) rest) ∙ ap (λ x. x ++ rest) (sym longer)
 
 row_push : (row : List Piece) (p : Piece) (from rest : List ℕ) → IsRow row from → from ≡ piece_text p ++ rest → Stands p rest → IsRow (row ++ p ∷ []) rest
@@ -82,10 +85,10 @@ begun (p ∷ ps) [] rest ts us stands of e row all =
     absurd (piece_begins p (row_text ps ++ rest) stands.0 (nothing_before (piece_text p) (row_text ps) rest e))
 begun (p ∷ ps) (q ∷ qs) rest ts us stands of e row all =
     let meet : piece_text p ++ (row_text ps ++ rest) ≡ piece_text q ++ (row_text qs ++ [])
-          = sym (append_assoc (piece_text p) (row_text ps) rest) ∙ e ∙ ap (λ x. piece_text q ++ x) (sym (append-nil (row_text qs))) in
+    = sym (append_assoc (piece_text p) (row_text ps) rest) ∙ e ∙ ap (λ x. piece_text q ++ x) (sym (append-nil (row_text qs))) in
     let same = front_same p q (row_text ps ++ rest) (row_text qs ++ []) meet stands.0 row.0 in
     after_first p ps qs rest ts us of (subst (λ r. AreOf (r ∷ qs) us) (sym same.0) all)
-      (λ vs ws a b. begun ps qs rest vs ws stands.1 a (same.1 ∙ append-nil (row_text qs)) row.1 b)
+    (λ vs ws a b. begun ps qs rest vs ws stands.1 a (same.1 ∙ append-nil (row_text qs)) row.1 b)
 
 -- the tokens of a text go on from those that are taken
 pub taken_begins : (text rest : List ℕ) (taken all : List Token) → IsTaken text rest taken → AreTokens text all → TokensGoOn rest taken all
@@ -125,3 +128,20 @@ stops_at text rest taken t bad = record {
   bad = bad;
   none = λ ts a. let g = taken_begins text rest taken ts t a in begins_none rest g.tokens.row g.others bad g.tokens.text g.tokens.stands g.tokens.tokens;
 }
+
+-- what stands at the front of the rest is taken
+pub front_taken : (text rest : List ℕ) (at : ℕ) (before after : List Token) (f : Front) → rest ≡ drop at text → IsTaken text (drop at text) before
+    → IsFront rest f → after ≡ before ++ tokens_of f.token → IsTaken text (drop (at + f.length) text) after
+front_taken text rest at before after f is taken front kept =
+    let further : drop f.length rest ≡ drop (at + f.length) text = ap (drop f.length) is ∙ drop-drop f.length at text in
+    let whole = subst (λ r. IsTaken text r before) (sym is) taken in
+    subst (λ r. IsTaken text r after) further (subst (IsTaken text (drop f.length rest)) (sym kept)
+    (piece_taken text rest (drop f.length rest) before (tokens_of f.token) front.piece whole front.text front.stands front.tokens))
+
+pub front_within : (text rest : List ℕ) (at : ℕ) (f : Front) → rest ≡ drop at text → IsFront rest f → at ≤ length text → at + f.length ≤ length text
+front_within text rest at f is front within =
+    let within_rest = front.within in omega (arith, ap length is, length-drop at text)
+
+-- at the end nothing is left
+pub taken_to_end : (text : List ℕ) (at : ℕ) (taken : List Token) → length text ≤ at → IsTaken text (drop at text) taken → IsTaken text [] taken
+taken_to_end text at taken end t = subst (λ r. IsTaken text r taken) (drop_all at text end) t

@@ -1,6 +1,6 @@
 -- The longest symbol at the front of a text.
-use Rattle.std.proofs.Common.{◌≡◌, ◌≢◌, ℕ, suc, ◌+◌, ◌<◌, ◌≤◌, ◌⊎◌, inl, inr, ⊎_elim, List, [], ◌∷◌, ◌++◌, length, get_or, take, drop, refl, sym, ◌∙◌, ap, subst, arith}
-use Rattle.std.specs.Prelude.{Option, Some, None}
+use Rattle.std.proofs.Common.{◌≡◌, ◌≢◌, ℕ, ◌⊎◌, inl, inr, ⊎_elim, List, [], ◌∷◌, ◌++◌, get_or, drop, refl, sym, ◌∙◌, ap, arith}
+use Rattle.std.specs.Prelude.{Some}
 use Rattle.script_front.specs.declared.token.Symbol.{Symbol}
 use Rattle.script_front.specs.declared.token.Symbol.TheVariants as mark
 use Rattle.script_front.specs.declared.token.Token.{Token}
@@ -10,8 +10,8 @@ use Rattle.script_front.specs.Lexemes.{IsLexeme, Longest, Piece, piece_text, Sta
 use Rattle.script_front.specs.Lexemes.IsLexeme.{OfWord, OfDigits, OfSymbol}
 use Rattle.script_front.specs.Lexemes.Piece.{Blank, Comment, Lexeme}
 use Rattle.script_front.specs.Fronts.{BeginsOther, BeginsPair, BeginsNoPair, IsFront}
-use Rattle.script_front.proofs.FirstCharacters.{Kind, kind_of, first_kind, blank_kind, words_kind, digits_kind, symbol_kind, other_kind}
-use Rattle.script_front.proofs.FirstCharacters.Kind.{Ends, Blanks, Comments, Words, Integers, Others}
+use Rattle.script_front.proofs.FirstCharacters.{kind_of, first_kind, blank_kind, words_kind, digits_kind, symbol_kind, other_kind}
+use Rattle.script_front.proofs.FirstCharacters.Kind.{Others}
 use Rattle.script_front.proofs.TextFronts.{lexeme_front}
 
 -- after its first character a symbol has nothing or an equals sign
@@ -83,11 +83,11 @@ symbol_longest : (s : Symbol) (c : ℕ) (cs rest : List ℕ) → c ∷ cs ≡ sy
 symbol_longest s c cs rest is longest =
     let kind : kind_of c ≡ Others = ap first_kind is ∙ symbol_kind s in
     let no_longer : (more after : List ℕ) → rest ≡ more ++ after → IsLexeme (c ∷ (cs ++ more)) → more ≡ []
-          = λ more after e lexeme. elim lexeme as (λ _. more ≡ []) [
-              OfWord w ↦ let other = words_kind (c ∷ (cs ++ more)) w in cc
-            | OfDigits d ↦ let other = digits_kind (c ∷ (cs ++ more)) d in cc
-            | OfSymbol t f ↦ longest t more after e f
-            ] in
+    = λ more after e lexeme. elim lexeme as (λ _. more ≡ []) [
+      | OfWord w ↦ let other = words_kind (c ∷ (cs ++ more)) w in cc
+      | OfDigits d ↦ let other = digits_kind (c ∷ (cs ++ more)) d in cc
+      | OfSymbol t f ↦ longest t more after e f
+    ] in
     record { lexeme = OfSymbol s is; longest = no_longer }
 
 -- no symbol is longer than one of two characters
@@ -101,23 +101,24 @@ pair_front [] s pair = absurd (omega (arith, pair.0))
 pair_front (c ∷ []) s pair = absurd (omega (arith, pair.0))
 pair_front (c ∷ d ∷ cs) s pair = lexeme_front (c ∷ d ∷ cs) 2 (Mark s) (omega arith) pair.0 (pair_longest s c d cs pair.1) pair.1
 
-pub single_front : (cs : List ℕ) (s : Symbol) → BeginsOther cs → BeginsNoPair cs → symbol_text s ≡ get_or cs 0 0 ∷ []
+pub single_front : (cs : List ℕ) (x : ℕ) (s : Symbol) → BeginsOther cs → BeginsNoPair cs → x ≡ get_or cs 0 x → symbol_text s ≡ x ∷ []
     → IsFront cs (record { length = 1; token = Some (Mark s) })
-single_front [] s other pair is = absurd other
-single_front (c ∷ cs) s other pair is =
+single_front [] x s other pair first alone = absurd other
+single_front (c ∷ cs) x s other pair first alone =
+    let is : symbol_text s ≡ c ∷ [] = alone ∙ ap (λ y. y ∷ []) first in
     lexeme_front (c ∷ cs) 1 (Mark s) (omega arith) (omega arith)
-      (symbol_longest s c [] cs (sym is) (λ t more after e f.
-        let tail : more ≡ drop 1 (symbol_text t) = ap (drop 1) f in
-        ⊎_elim
-          (λ none. tail ∙ none)
-          (λ equal. let longer : more ≡ 61 ∷ [] = tail ∙ equal in
-            absurd (pair t c after (ap (λ x. c ∷ x) (e ∙ ap (λ x. x ++ after) longer)) (sym f ∙ ap (λ x. c ∷ x) longer)))
-          (symbol_tail t)))
-      (sym is)
+    (symbol_longest s c [] cs (sym is) (λ t more after e f.
+    let tail : more ≡ drop 1 (symbol_text t) = ap (drop 1) f in
+    ⊎_elim
+    (λ none. tail ∙ none)
+    (λ equal. let longer : more ≡ 61 ∷ [] = tail ∙ equal in
+    absurd (pair t c after (ap (λ x. c ∷ x) (e ∙ ap (λ x. x ++ after) longer)) (sym f ∙ ap (λ x. c ∷ x) longer)))
+    (symbol_tail t)))
+    (sym is)
 
-pub no_symbol : (cs : List ℕ) → BeginsOther cs → ((s : Symbol) → symbol_text s ≢ get_or cs 0 0 ∷ []) → BeginsNoToken cs
-no_symbol [] other alone = absurd other
-no_symbol (c ∷ cs) other alone = record { more = λ e. cc; none = none }
+pub no_symbol : (cs : List ℕ) (x : ℕ) → BeginsOther cs → x ≡ get_or cs 0 x → ((s : Symbol) → symbol_text s ≢ x ∷ []) → BeginsNoToken cs
+no_symbol [] x other is alone = absurd other
+no_symbol (c ∷ cs) x other is alone = record { more = λ e. cc; none = none }
   where
     kind : kind_of c ≡ Others
     kind = other_kind c other.0 other.1 other.2 other.3
@@ -128,9 +129,9 @@ no_symbol (c ∷ cs) other alone = record { more = λ e. cc; none = none }
     lexeme_none [] after e (OfSymbol s is) = let k = ap first_kind is ∙ symbol_kind s in cc
     lexeme_none (d ∷ ds) after e (OfWord w) = let first : c ≡ d = cc in let k = words_kind (d ∷ ds) w in let l = ap kind_of first in cc
     lexeme_none (d ∷ ds) after e (OfDigits g) = let first : c ≡ d = cc in let k = digits_kind (d ∷ ds) g in let l = ap kind_of first in cc
-    lexeme_none (d ∷ ds) after e (OfSymbol s is) =
+    lexeme_none (d ∷ ds) after e (OfSymbol s text) =
         let first : d ≡ c = cc in
-        alone (short s) (short_text s ∙ ap (λ x. get_or x 0 0 ∷ []) (sym is) ∙ ap (λ x. x ∷ []) first)
+        alone (short s) (short_text s ∙ ap (λ y. get_or y 0 0 ∷ []) (sym text) ∙ ap (λ y. y ∷ []) (first ∙ sym is))
 
     none : (p : Piece) (after : List ℕ) (ts : List Token) → c ∷ cs ≡ piece_text p ++ after → Stands p after → AreOf (p ∷ []) ts → ⊥
     none (Blank d) after ts e stands of = let first : c ≡ d = cc in let k = blank_kind d stands in let l = ap kind_of first in cc

@@ -1,17 +1,15 @@
 -- From the lexeme, blank or comment at the front of a text to what stands there.
-use Rattle.std.proofs.Common.{◌≡◌, ◌≢◌, ℕ, suc, ◌+◌, ◌<◌, ◌≤◌, Bool, true, false, not, cond, List, [], ◌∷◌, ◌++◌, length, get_or, take, drop, refl, sym, ◌∙◌, ap, subst, arith, take-append-drop}
-use Rattle.std.specs.Prelude.{◌==◌, Option, Some, None}
+use Rattle.std.proofs.Common.{◌≡◌, ◌≢◌, ℕ, suc, ◌+◌, ◌<◌, ◌≤◌, Bool, true, not, List, [], ◌∷◌, length, get_or, take, drop, refl, sym, ◌∙◌, ap, subst, arith, take-append-drop}
+use Rattle.std.specs.Prelude.{◌==◌, Some, None}
 use Rattle.std.specs.List.{list_all, prefix_len}
-use Rattle.std.specs.Char.{is_ascii_digit}
-use Rattle.std.proofs.lemmas.Bool.{eqb-true}
 use Rattle.std.proofs.lemmas.Bool.Decides.{nat_tests}
 use Rattle.std.proofs.lemmas.List.Sums.{prefix_len-le-length}
 use Rattle.script_front.specs.declared.token.Token.{Token}
-use Rattle.script_front.specs.Lexemes.{is_blank, starts_word, Longest, Means, EndsLine, HasNoLineFeed, BeginsNoToken}
+use Rattle.script_front.specs.Lexemes.{is_blank, Longest, Means, EndsLine, HasNoLineFeed, BeginsNoToken}
 use Rattle.script_front.specs.Lexemes.Piece.{Blank, Comment, Lexeme}
-use Rattle.script_front.specs.Fronts.{BeginsWord, BeginsDigits, BeginsOther, MeansNothing, IsFront}
+use Rattle.script_front.specs.Fronts.{MeansNothing, IsFront}
 use Rattle.script_front.proofs.FrontPieces.{bad_lexeme}
-use Rattle.script_front.proofs.LexemeRuns.{StopsAt, run_passes, run_stops, one_passes, both_pass}
+use Rattle.script_front.proofs.LexemeRuns.{IsRun, StopsAt, run_passes, run_stops, one_passes, both_pass}
 
 -- a token at the front
 pub lexeme_front : (cs : List ℕ) (n : ℕ) (t : Token) → 0 < n → n ≤ length cs → Longest (take n cs) (drop n cs) → Means (take n cs) t
@@ -25,13 +23,10 @@ lexeme_front cs n t some within longest means = record {
   tokens = (means, refl);
 }
 
--- a lexeme at the front that means no token
-pub lexeme_bad : (cs : List ℕ) (n : ℕ) → Longest (take n cs) (drop n cs) → MeansNothing (take n cs) → BeginsNoToken cs
-lexeme_bad cs n longest nothing = bad_lexeme (take n cs) (drop n cs) cs (sym (take-append-drop n cs)) longest nothing
-
-pub blank_front : (cs : List ℕ) → cs ≢ [] → is_blank (get_or cs 0 0) ≡ true → IsFront cs (record { length = 1; token = None })
-blank_front [] some blank = absurd (some refl)
-blank_front (c ∷ cs) some blank = record { some = omega arith; within = omega arith; piece = Blank c; text = refl; stands = blank; tokens = refl }
+pub blank_front : (cs : List ℕ) (x : ℕ) → cs ≢ [] → x ≡ get_or cs 0 x → is_blank x ≡ true → IsFront cs (record { length = 1; token = None })
+blank_front [] x some is blank = absurd (some refl)
+blank_front (c ∷ cs) x some is blank =
+    record { some = omega arith; within = omega arith; piece = Blank c; text = refl; stands = ap is_blank (sym is) ∙ blank; tokens = refl }
 
 no_ten : (c : ℕ) → not (c == 10) ≡ true → c ≢ 10
 no_ten c pass is = grind (arith, nat_tests)
@@ -59,21 +54,18 @@ comment_at cs =
       tokens = refl;
     }
 
-pub comment_front : (cs : List ℕ) → cs ≢ [] → (get_or cs 0 0 == 35) ≡ true
-    → IsFront cs (record { length = prefix_len (λ c. not (c == 10)) cs; token = None })
-comment_front [] some sign = absurd (some refl)
-comment_front (c ∷ cs) some sign =
-    subst (λ d. IsFront (d ∷ cs) (record { length = prefix_len (λ c. not (c == 10)) (d ∷ cs); token = None })) (sym (eqb-true c 35 sign)) (comment_at cs)
+pub comment_front : (cs : List ℕ) (x n : ℕ) → cs ≢ [] → x ≡ get_or cs 0 x → x ≡ 35 → n ≡ prefix_len (λ c. not (c == 10)) cs
+    → IsFront cs (record { length = n; token = None })
+comment_front [] x n some is sign length = absurd (some refl)
+comment_front (c ∷ cs) x n some is sign length =
+    let first : 35 ≡ c = sym sign ∙ is in
+    let front : IsFront (c ∷ cs) (record { length = prefix_len (λ c. not (c == 10)) (c ∷ cs); token = None })
+    = subst (λ d. IsFront (d ∷ cs) (record { length = prefix_len (λ c. not (c == 10)) (d ∷ cs); token = None })) first (comment_at cs) in
+    subst (λ m. IsFront (c ∷ cs) (record { length = m; token = None })) (sym length) front
 
-pub begins_word : (cs : List ℕ) → cs ≢ [] → starts_word (get_or cs 0 0) ≡ true → BeginsWord cs
-begins_word [] some word = absurd (some refl)
-begins_word (c ∷ cs) some word = word
+-- a run at the front that means a token, and one that means none
+pub run_front : (Lexes : List ℕ → Type 0) (cs : List ℕ) (n : ℕ) (t : Token) → IsRun Lexes cs n → Means (take n cs) t → IsFront cs (record { length = n; token = Some t })
+run_front Lexes cs n t run means = lexeme_front cs n t run.some run.within run.longest means
 
-pub begins_digits : (cs : List ℕ) → cs ≢ [] → is_ascii_digit (get_or cs 0 0) ≡ true → BeginsDigits cs
-begins_digits [] some digit = absurd (some refl)
-begins_digits (c ∷ cs) some digit = digit
-
-pub begins_other : (cs : List ℕ) → cs ≢ [] → is_blank (get_or cs 0 0) ≡ false → (get_or cs 0 0 == 35) ≡ false → starts_word (get_or cs 0 0) ≡ false
-    → is_ascii_digit (get_or cs 0 0) ≡ false → BeginsOther cs
-begins_other [] some blank comment word digit = absurd (some refl)
-begins_other (c ∷ cs) some blank comment word digit = (blank, comment, word, digit)
+pub run_bad : (Lexes : List ℕ → Type 0) (cs : List ℕ) (n : ℕ) → IsRun Lexes cs n → MeansNothing (take n cs) → BeginsNoToken cs
+run_bad Lexes cs n run nothing = bad_lexeme (take n cs) (drop n cs) cs (sym (take-append-drop n cs)) run.longest nothing

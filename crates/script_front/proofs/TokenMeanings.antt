@@ -1,10 +1,10 @@
 -- A lexeme means one token at most.
-use Rattle.std.proofs.Common.{◌≡◌, ◌≢◌, ℕ, suc, ◌+◌, ◌^◌, ◌<◌, ◌≤◌, Bool, true, false, cond, List, [], ◌∷◌, ◌++◌, length, get_or, refl, sym, ◌∙◌, ap, subst, arith}
-use Rattle.std.specs.Prelude.{ℤ, pos, bytes_eq, encode_utf8_all, codes}
+use Rattle.std.proofs.Common.{◌≡◌, ℕ, ◌^◌, ◌<◌, true, cond, List, [], ◌∷◌, length, refl, sym, ◌∙◌, ap, arith}
+use Rattle.std.specs.Prelude.{pos, bytes_eq, codes}
 use Rattle.std.specs.List.{list_all}
 use Rattle.std.specs.Char.{is_ascii_digit, digit_value}
 use Rattle.std.specs.Fmt.{decimal}
-use Rattle.std.specs.Str.Parse.{AllDigits, digits_value}
+use Rattle.std.specs.Str.Parse.{AllDigits}
 use Rattle.std.proofs.lemmas.Str.Parse.{digit_from_value}
 use Rattle.std.proofs.lemmas.Fmt.{decimal_is_IsNumeral, decimal_injective}
 use Rattle.std.proofs.lemmas.Bool.Decides.{nat_tests}
@@ -17,7 +17,7 @@ use Rattle.script_front.specs.declared.token.Token.{Token}
 use Rattle.script_front.specs.declared.token.Token.TheVariants.{Name, Int, Word, Mark}
 use Rattle.script_front.specs.Words.{keyword_text, symbol_text}
 use Rattle.script_front.specs.Lexemes.{IsWord, IsDigits, Means}
-use Rattle.script_front.proofs.FirstCharacters.{Kind, kind_of, first_kind, words_kind, digits_kind, symbol_kind, digit_kind}
+use Rattle.script_front.proofs.FirstCharacters.{Kind, first_kind, words_kind, digits_kind, symbol_kind}
 use Rattle.script_front.proofs.FirstCharacters.Kind.{Words, Integers, Others}
 
 -- the keyword with this text, if there is one

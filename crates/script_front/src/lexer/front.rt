@@ -25,9 +25,15 @@ pub fn front_of(alloc: Global, text: &[char]) -> Result<Option<Front>, AllocErro
 {
     let first = text[0];
     if is_blank(first) {
-        Ok(Some(Front { length: 1, token: None }))
+        Ok(Some(Front {
+            length: 1,
+            token: None,
+        }))
     } else if first == '#' {
-        Ok(Some(Front { length: comment_length(text), token: None }))
+        Ok(Some(Front {
+            length: comment_length(text),
+            token: None,
+        }))
     } else if starts_word(first) {
         word_front(alloc, text)
     } else if first.is_ascii_digit() {

@@ -16,7 +16,10 @@ pub fn integer_front(text: &[char]) -> Option<Front>
 {
     let length = digits_length(text);
     let value = integer_of(&text[..length])?;
-    Some(Front { length, token: Some(Token::Int(value)) })
+    Some(Front {
+        length,
+        token: Some(Token::Int(value)),
+    })
 }
 
 /// How many digits stand at the front.

@@ -13,10 +13,16 @@ pub fn symbol_front(text: &[char]) -> Option<Front>
     ensures { MatchOption result (BeginsNoToken text.now) (λ f. IsFront text.now f) }
 {
     if let Some(symbol) = symbol_of_two(text) {
-        return Some(Front { length: 2, token: Some(Token::Mark(symbol)) });
+        return Some(Front {
+            length: 2,
+            token: Some(Token::Mark(symbol)),
+        });
     }
     let symbol = symbol_of_one(text[0])?;
-    Some(Front { length: 1, token: Some(Token::Mark(symbol)) })
+    Some(Front {
+        length: 1,
+        token: Some(Token::Mark(symbol)),
+    })
 }
 
 /// The symbol of two characters at the front of a text: each ends in `=`.

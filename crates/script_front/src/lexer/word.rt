@@ -1,4 +1,4 @@
-ghost use Rattle.std.specs.Prelude.{◌≡◌, ◌≢◌, ◌≤◌, ◌↔◌, [], ◌∷◌, length, IsTrue, IfOk, MatchOption, encode_utf8_all};
+ghost use Rattle.std.specs.Prelude.{◌≡◌, ◌≢◌, ◌≤◌, ◌↔◌, [], ◌∷◌, length, IsTrue, IfOk, MatchOption, string_bytes, encode_utf8_all};
 ghost use Rattle.std.specs.List.{prefix_len};
 ghost use Rattle.unicode_ident.specs.Ident.{is_xid_continue};
 ghost use Rattle.script_front.specs.declared.token.Keyword.{Keyword};
@@ -21,7 +21,10 @@ pub fn word_front(alloc: Global, text: &[char]) -> Result<Option<Front>, AllocEr
 {
     let length = word_length(text);
     match word_token(alloc, &text[..length])? {
-        Some(token) => Ok(Some(Front { length, token: Some(token) })),
+        Some(token) => Ok(Some(Front {
+            length,
+            token: Some(token),
+        })),
         None => Ok(None),
     }
 }
@@ -30,7 +33,9 @@ pub fn word_front(alloc: Global, text: &[char]) -> Result<Option<Front>, AllocEr
 fn word_length(text: &[char]) -> usize
     ensures { result ≡ prefix_len is_xid_continue text.now }
 {
-    text.iter().take_while(|c| unicode_ident::is_xid_continue(**c)).count()
+    text.iter()
+        .take_while(|c| unicode_ident::is_xid_continue(**c))
+        .count()
 }
 
 /// The token that a word means; `None` where it is too long.
@@ -41,7 +46,7 @@ fn word_token(alloc: Global, word: &[char]) -> Result<Option<Token>, AllocError>
     if !is_short(word) {
         return Ok(None);
     }
-    let text: String = word.iter().collect(alloc)?;
+    let text = text_of(alloc, word)?;
     if let Some(keyword) = keyword_of(text.as_str()) {
         return Ok(Some(Token::Word(keyword)));
     }
@@ -63,6 +68,13 @@ fn is_short(word: &[char]) -> bool
         }
     }
     true
+}
+
+/// The characters as a text.
+fn text_of(alloc: Global, characters: &[char]) -> Result<String, AllocError>
+    ensures { IfOk result (λ s. string_bytes s ≡ encode_utf8_all characters.now) }
+{
+    characters.iter().copied().collect(alloc)
 }
 
 /// The keyword with this text.
