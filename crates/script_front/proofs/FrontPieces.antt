@@ -3,7 +3,7 @@ use Rattle.std.proofs.Common.{◌≡◌, ◌≢◌, ℕ, ◌⊎◌, inl, inr, �
 use Rattle.script_front.specs.declared.token.Token.{Token}
 use Rattle.script_front.specs.Lexemes.{IsLexeme, Longest, Piece, piece_text, EndsLine, HasNoLineFeed, Stands, AreOf, BeginsNoToken}
 use Rattle.script_front.specs.Lexemes.Piece.{Blank, Comment, Lexeme}
-use Rattle.script_front.specs.Fronts.{MeansNothing}
+use Rattle.script_front.specs.TextFronts.{MeansNothing}
 use Rattle.script_front.proofs.FirstCharacters.{kind_of, first_kind, blank_kind, begins_lexeme}
 use Rattle.script_front.proofs.FirstCharacters.Kind.{Ends, Blanks, Comments}
 

@@ -18,7 +18,7 @@ use Rattle.std.proofs.lemmas.Bool.{cases_lt}
 use Rattle.std.proofs.lemmas.Bool.Decides.{nat_tests}
 use Rattle.script_front.specs.declared.token.Token.TheVariants.{Name, Int, Word, Mark}
 use Rattle.script_front.specs.Lexemes.{IsDigits, Means}
-use Rattle.script_front.specs.Fronts.{MeansNothing}
+use Rattle.script_front.specs.TextFronts.{MeansNothing}
 use Rattle.script_front.proofs.FirstCharacters.{digits_kind}
 use Rattle.script_front.proofs.LexemeRuns.{one_passes, both_pass}
 use Rattle.script_front.proofs.TokenMeanings.{means_kind}

@@ -7,7 +7,7 @@ use Rattle.std.proofs.lemmas.List.Sums.{prefix_len-le-length}
 use Rattle.unicode_ident.specs.Ident.{is_xid_continue}
 use Rattle.script_front.specs.Lexemes.{IsWord, IsDigits, IsLexeme, Longest}
 use Rattle.script_front.specs.Lexemes.IsLexeme.{OfWord, OfDigits, OfSymbol}
-use Rattle.script_front.specs.Fronts.{BeginsWord, BeginsDigits}
+use Rattle.script_front.specs.TextFronts.{BeginsWord, BeginsDigits}
 use Rattle.script_front.proofs.FirstCharacters.{first_kind, words_kind, digits_kind, symbol_kind, word_continues}
 
 -- a run of characters that pass stops here

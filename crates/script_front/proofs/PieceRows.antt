@@ -6,7 +6,7 @@ use Rattle.script_front.specs.declared.token.Token.{Token}
 use Rattle.script_front.specs.Lexemes.{Piece, piece_text, row_text, Stands, IsRow, AreOf, AreTokens, BeginsNoToken, LexesTo}
 use Rattle.script_front.specs.Lexemes.Piece.{Blank, Comment, Lexeme}
 use Rattle.script_front.specs.declared.lexer.front.Front.{Front}
-use Rattle.script_front.specs.Fronts.{tokens_of, IsFront}
+use Rattle.script_front.specs.TextFronts.{tokens_of, IsFront}
 use Rattle.script_front.proofs.FrontPieces.{front_same, piece_begins}
 use Rattle.script_front.proofs.TokenMeanings.{means_same}
 

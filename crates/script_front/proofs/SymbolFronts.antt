@@ -9,7 +9,7 @@ use Rattle.script_front.specs.Words.{symbol_text}
 use Rattle.script_front.specs.Lexemes.{IsLexeme, Longest, Piece, piece_text, Stands, AreOf, BeginsNoToken}
 use Rattle.script_front.specs.Lexemes.IsLexeme.{OfWord, OfDigits, OfSymbol}
 use Rattle.script_front.specs.Lexemes.Piece.{Blank, Comment, Lexeme}
-use Rattle.script_front.specs.Fronts.{BeginsOther, BeginsPair, BeginsNoPair, IsFront}
+use Rattle.script_front.specs.TextFronts.{BeginsOther, BeginsPair, BeginsNoPair, IsFront}
 use Rattle.script_front.proofs.FirstCharacters.{kind_of, first_kind, blank_kind, words_kind, digits_kind, symbol_kind, other_kind}
 use Rattle.script_front.proofs.FirstCharacters.Kind.{Others}
 use Rattle.script_front.proofs.TextFronts.{lexeme_front}

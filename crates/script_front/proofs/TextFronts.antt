@@ -7,7 +7,7 @@ use Rattle.std.proofs.lemmas.List.Sums.{prefix_len-le-length}
 use Rattle.script_front.specs.declared.token.Token.{Token}
 use Rattle.script_front.specs.Lexemes.{is_blank, Longest, Means, EndsLine, HasNoLineFeed, BeginsNoToken}
 use Rattle.script_front.specs.Lexemes.Piece.{Blank, Comment, Lexeme}
-use Rattle.script_front.specs.Fronts.{MeansNothing, IsFront}
+use Rattle.script_front.specs.TextFronts.{MeansNothing, IsFront}
 use Rattle.script_front.proofs.FrontPieces.{bad_lexeme}
 use Rattle.script_front.proofs.LexemeRuns.{IsRun, StopsAt, run_passes, run_stops, one_passes, both_pass}
 

@@ -14,7 +14,7 @@ use Rattle.script_front.specs.declared.token.Keyword.TheVariants as word
 use Rattle.script_front.specs.declared.token.Token.TheVariants.{Name, Int, Word, Mark}
 use Rattle.script_front.specs.Words.{keyword_text}
 use Rattle.script_front.specs.Lexemes.{IsWord, Means}
-use Rattle.script_front.specs.Fronts.{MeansNothing}
+use Rattle.script_front.specs.TextFronts.{MeansNothing}
 use Rattle.script_front.proofs.FirstCharacters.{words_kind}
 use Rattle.script_front.proofs.TokenMeanings.{means_kind}
 

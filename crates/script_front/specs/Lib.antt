@@ -1,5 +1,4 @@
 pub mod Forms
-pub mod Fronts
 pub mod Grammar
 pub mod Halts
 pub mod Lexemes
@@ -8,5 +7,6 @@ pub mod Script
 pub mod Shallow
 pub mod Sites
 pub mod Spelling
+pub mod TextFronts
 pub mod Words
 pub mod Written

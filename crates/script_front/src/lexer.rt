@@ -1,12 +1,14 @@
 ghost use Rattle.std.specs.Prelude.{◌≡◌, ◌≤◌, List, ◌++◌, length, drop, IfOk, IfErr, OnOk};
 ghost use Rattle.script_front.specs.declared.token.Token.{Token};
-ghost use Rattle.script_front.specs.Fronts.{tokens_of};
+ghost use Rattle.script_front.specs.TextFronts.{tokens_of};
 ghost use Rattle.script_front.specs.Halts.{Unlexes};
 ghost use Rattle.script_front.specs.Lexemes.{AreTokens};
 
 mod front;
 mod integer;
 mod symbol;
+#[cfg(test)]
+mod tests;
 mod word;
 
 use crate::token::Token;

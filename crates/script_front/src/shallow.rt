@@ -25,3 +25,39 @@ pub(crate) fn is_shallow(tokens: &[Token]) -> bool
     }
     true
 }
+
+#[cfg(test)]
+mod tests {
+    use super::is_shallow;
+    use crate::token::{Symbol, Token};
+    use std::test::Fail;
+
+    #[test]
+    fn brackets_that_stand_open(rt: HostRuntime) -> Result<(), Fail> {
+        // closing brackets, opening ones, closing ones, opening ones, and whether that is shallow
+        let rows = [
+            (0, 128, 0, 0, true),
+            (0, 129, 0, 0, false),
+            (0, 128, 1, 1, true),
+            (0, 128, 1, 2, false),
+            (3, 128, 0, 0, true),
+            (3, 129, 0, 0, false),
+        ];
+        for (before, first, between, last, want) in rows {
+            let mut tokens = Vec::new(rt.alloc());
+            let parts = [
+                (before, Symbol::CloseBrace),
+                (first, Symbol::OpenParenthesis),
+                (between, Symbol::CloseBracket),
+                (last, Symbol::OpenBrace),
+            ];
+            for (count, symbol) in parts {
+                for _ in 0..count {
+                    tokens.push(Token::Mark(symbol))?;
+                }
+            }
+            assert_eq!(rt; is_shallow(tokens.as_slice()), want, "{before} {first} {between} {last}");
+        }
+        Ok(())
+    }
+}

@@ -1,7 +1,7 @@
 ghost use Rattle.std.specs.Prelude.{◌≡◌, ◌<◌, ◌==◌, ◌||◌, ◌≢◌, not, [], length, IfOk, MatchOption};
 ghost use Rattle.std.specs.List.{prefix_len};
 ghost use Rattle.script_front.specs.Lexemes.{is_blank, starts_word, BeginsNoToken};
-ghost use Rattle.script_front.specs.Fronts.{IsFront};
+ghost use Rattle.script_front.specs.TextFronts.{IsFront};
 
 use super::integer::integer_front;
 use super::symbol::symbol_front;

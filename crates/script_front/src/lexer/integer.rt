@@ -4,7 +4,7 @@ ghost use Rattle.std.specs.List.{prefix_len};
 ghost use Rattle.std.specs.Str.Parse.{digits_value};
 ghost use Rattle.script_front.specs.declared.token.Token.TheVariants as token;
 ghost use Rattle.script_front.specs.Lexemes.{IsDigits, Means, BeginsNoToken};
-ghost use Rattle.script_front.specs.Fronts.{IsFront, BeginsDigits, MeansNothing};
+ghost use Rattle.script_front.specs.TextFronts.{IsFront, BeginsDigits, MeansNothing};
 
 use super::front::Front;
 use crate::token::Token;

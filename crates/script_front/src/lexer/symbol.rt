@@ -2,7 +2,7 @@ ghost use Rattle.std.specs.Prelude.{◌≡◌, ◌≢◌, [], ◌∷◌, MatchOp
 ghost use Rattle.script_front.specs.declared.token.Symbol.{Symbol};
 ghost use Rattle.script_front.specs.Words.{symbol_text};
 ghost use Rattle.script_front.specs.Lexemes.{BeginsNoToken};
-ghost use Rattle.script_front.specs.Fronts.{IsFront, BeginsOther, BeginsPair, BeginsNoPair};
+ghost use Rattle.script_front.specs.TextFronts.{IsFront, BeginsOther, BeginsPair, BeginsNoPair};
 
 use super::front::Front;
 use crate::token::{Symbol, Token};

@@ -4,7 +4,7 @@ ghost use Rattle.unicode_ident.specs.Ident.{is_xid_continue};
 ghost use Rattle.script_front.specs.declared.token.Keyword.{Keyword};
 ghost use Rattle.script_front.specs.Words.{keyword_text};
 ghost use Rattle.script_front.specs.Lexemes.{IsWord, Means, BeginsNoToken};
-ghost use Rattle.script_front.specs.Fronts.{IsFront, BeginsWord, MeansNothing};
+ghost use Rattle.script_front.specs.TextFronts.{IsFront, BeginsWord, MeansNothing};
 
 use super::front::Front;
 use crate::token::{Keyword, Token};
