@@ -1,3 +1,12 @@
 pub mod Lists
 pub mod Numbers
 pub mod Refusals
+pub mod FirstCharacters
+pub mod LexemeRuns
+pub mod FrontPieces
+pub mod TokenMeanings
+pub mod PieceRows
+pub mod SymbolFronts
+pub mod TextFronts
+pub mod WordFronts
+pub mod IntegerFronts

@@ -7,5 +7,6 @@ pub mod Script
 pub mod Shallow
 pub mod Sites
 pub mod Spelling
+pub mod TextFronts
 pub mod Words
 pub mod Written

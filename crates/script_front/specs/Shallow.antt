@@ -1,6 +1,5 @@
 -- How deep brackets stand in a list of tokens.
 use Rattle.std.specs.Prelude.{ℕ, suc, ◌-◌, ◌<◌, List, [], ◌∷◌}
-use Rattle.script_front.specs.declared.token.Symbol.{Symbol}
 use Rattle.script_front.specs.declared.token.Symbol.TheVariants as mark
 use Rattle.script_front.specs.declared.token.Token.{Token}
 use Rattle.script_front.specs.declared.token.Token.TheVariants.{Mark}
