@@ -2,6 +2,7 @@
 #![tactic(auto)]
 
 mod halt;
+mod laws;
 mod lexer;
 mod limits;
 mod parser;
@@ -10,6 +11,7 @@ mod reading;
 mod token;
 mod tree;
 
+pub use laws::trees_have_distinct_spellings;
 pub use limits::{MOST_BYTES, MOST_OPEN_BRACKETS, MOST_SITES};
 pub use program::Program;
 pub use reading::{ReadFault, ScriptRefused, read};

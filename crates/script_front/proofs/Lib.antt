@@ -1,0 +1,10 @@
+mod Exits
+mod ExpressionLaws
+mod Fronts
+mod Items
+mod Rules
+mod StatementLaws
+mod StatementRules
+mod Steps
+mod Trees
+mod Unique
