@@ -2,9 +2,11 @@ mod Exits
 mod ExpressionLaws
 mod Fronts
 mod Items
+mod ParseOutcomes
 mod Rules
 mod StatementLaws
 mod StatementRules
+mod StatementSteps
 mod Steps
 mod Trees
 mod Unique

@@ -11,13 +11,13 @@ use Rattle.script_front.specs.declared.tree.Stmt.TheVariants as stmt
 use Rattle.script_front.specs.declared.tree.Block.{Block}
 use Rattle.script_front.specs.declared.tree.Task.{Task}
 use Rattle.script_front.specs.declared.tree.Script.{Script}
-use Rattle.script_front.specs.Forms.{Tokens}
+use Rattle.script_front.specs.Forms.{Tokens, tok}
 use Rattle.script_front.specs.Grammar.{BeginsNot, name_form, expr_form, stmt_form, stmts_form, block_form, task_form, script_form}
 use Rattle.script_front.specs.Spelling.{spell, spell_task, spell_stmt}
 use Rattle.script_front.specs.Written.{is_written, is_written_stmt, is_written_block, is_written_task}
 use Rattle.script_front.proofs.Items.{Lawful}
 use Rattle.script_front.proofs.ExpressionLaws.{lawful_expr, lawful_name}
-use Rattle.script_front.proofs.StatementRules.{StmtAt, stmt_at, print_form, semicolon_form, print_0, more_stmts_form, row_0, block_0, named_form, task_0}
+use Rattle.script_front.proofs.StatementRules.{StmtAt, stmt_at, print_form, semicolon_form, print_0, more_stmts_form, row_0, braced_form, braced, block_0, named_form, titled_form, titled, task_0}
 use Rattle.script_front.proofs.Unique.{UniqueAt, tok_unique, seq_unique, unique_by}
 
 stmt_unique : (s : Stmt) → is_written_stmt s ≡ true → UniqueAt stmt_form s
@@ -50,25 +50,20 @@ stmts_unique (s ∷ ss) w b x y m n e =
 
 block_unique : (b : Block) → is_written_block b ≡ true → UniqueAt block_form b
 block_unique b w c x y m n e =
-    unique_by block_form stmts_form (Mark mark.OpenBrace ∷ (stmts_form.tokens b.0 ++ x)) x (λ ss. record { 0 = ss }) b.0 (block_0 (stmts_form.tokens b.0 ++ x)) w
-      (stmts_unique b.0 w) c y n e
+    let h : braced_form.Tree = (tt, b.0) in
+    unique_by block_form braced_form (braced_form.tokens h ++ x) x braced h (block_0 (braced_form.tokens h ++ x)) (tt, w)
+      (seq_unique (tok (Mark mark.OpenBrace)) (λ _. stmts_form) tt b.0 (tok_unique (Mark mark.OpenBrace)) (stmts_unique b.0 w)) c y n e
 
 task_unique : (t : Task) → is_written_task t ≡ true → UniqueAt task_form t
 task_unique t w b x y m n e =
-    let h : named_form.Tree = (t.name, t.body) in
-    unique_by task_form named_form (Word word.Task ∷ (named_form.tokens h ++ x)) x (λ p. record { name = p.0; body = p.1 }) h (task_0 (named_form.tokens h ++ x)) (tt, w)
-      (seq_unique name_form (λ _. block_form) t.name t.body (lawful_name.unique t.name) (block_unique t.body w)) b y n e
+    let h : titled_form.Tree = (tt, (t.name, t.body)) in
+    unique_by task_form titled_form (titled_form.tokens h ++ x) x titled h (task_0 (titled_form.tokens h ++ x)) (tt, (tt, w))
+      (seq_unique (tok (Word word.Task)) (λ _. named_form) tt (t.name, t.body) (tok_unique (Word word.Task))
+        (seq_unique name_form (λ _. block_form) t.name t.body (lawful_name.unique t.name) (block_unique t.body w))) b y n e
 
 pub lawful_stmt : Lawful stmt_form
 lawful_stmt = record {
   unique = λ a b x y m n e. stmt_unique a m b x y m n e;
-  local = λ a x y go m. m;
-  ends = λ a x m. m;
-}
-
-pub lawful_stmts : Lawful stmts_form
-lawful_stmts = record {
-  unique = λ a b x y m n e. stmts_unique a m b x y m n e;
   local = λ a x y go m. m;
   ends = λ a x m. m;
 }

@@ -64,22 +64,35 @@ row_0 r none = branch stmts_form more_stmts_form r (λ p. p.0 ∷ p.1)
 pub row_end : (rest : Tokens) → Reads stmts_form (Mark mark.CloseBrace ∷ rest) [] rest
 row_end rest = record { split = refl; may = refl }
 
--- after an opening brace stand statements and the closing one
-pub block_0 : (r : Tokens) → At block_form (Mark mark.OpenBrace ∷ r) stmts_form r (λ ss. record { 0 = ss })
-block_0 r = after_first block_form stmts_form (Mark mark.OpenBrace) r (λ ss. record { 0 = ss })
+-- an opening brace, statements and the closing one
+abbrev pub braced_form : Form
+braced_form = seq (tok (Mark mark.OpenBrace)) (λ _. stmts_form)
+
+abbrev pub braced : braced_form.Tree → Block
+braced p = record { 0 = p.1 }
+
+pub block_0 : (r : Tokens) → At block_form r braced_form r braced
+block_0 r = branch block_form braced_form r braced
     (λ b post m. refl)
-    (λ b post m. m)
-    (λ us a post m e. (a.0, (refl, m)))
+    (λ b post m. m.1)
+    (λ us go a post m e. ((tt, a.0), (refl, (tt, m))))
 
 -- what stands after `task`
 abbrev pub named_form : Form
 named_form = seq name_form (λ _. block_form)
 
-pub task_0 : (r : Tokens) → At task_form (Word word.Task ∷ r) named_form r (λ p. record { name = p.0; body = p.1 })
-task_0 r = after_first task_form named_form (Word word.Task) r (λ p. record { name = p.0; body = p.1 })
+-- `task`, a name and a block
+abbrev pub titled_form : Form
+titled_form = seq (tok (Word word.Task)) (λ _. named_form)
+
+abbrev pub titled : titled_form.Tree → Task
+titled p = record { name = p.1.0; body = p.1.1 }
+
+pub task_0 : (r : Tokens) → At task_form r titled_form r titled
+task_0 r = branch task_form titled_form r titled
     (λ b post m. refl)
-    (λ b post m. m.1)
-    (λ us a post m e. ((a.name, a.body), (refl, (tt, m))))
+    (λ b post m. m.1.1)
+    (λ us go a post m e. ((tt, (a.name, a.body)), (refl, (tt, (tt, m)))))
 
 -- the end of the tokens
 abbrev pub end_form : Form
@@ -92,6 +105,11 @@ only_task_form = seq task_form (λ _. end_form)
 abbrev pub only_task : only_task_form.Tree → Script
 only_task p = record { tasks = p.0 ∷ [] }
 
+-- what goes on as tokens is no end
+pub no_end : (r us : Tokens) → r ≢ [] → GoesOnAs r us → us ≡ [] → ⊥
+no_end [] us more go e = more refl
+no_end (t ∷ r) us more go e = let f = go.1 in cc
+
 -- where tokens are, the script is one task
 pub script_0 : (r : Tokens) → r ≢ [] → At script_form r only_task_form r only_task
 script_0 r more = branch script_form only_task_form r only_task
@@ -99,10 +117,6 @@ script_0 r more = branch script_form only_task_form r only_task
     (λ b post m. (and_from (is_written_task b.0) true m.0 refl, m.1))
     (λ us go a post m e. only us go post a.tasks m e)
   where
-    no_end : (r us : Tokens) → r ≢ [] → GoesOnAs r us → us ≡ [] → ⊥
-    no_end [] us more go e = more refl
-    no_end (t ∷ r) us more go e = let f = go.1 in cc
-
     two : (n : ℕ) → nat_le (suc (suc n)) 1 ≡ true → ⊥
     two n e = let few : suc (suc n) ≤ 1 = leb-true (suc (suc n)) 1 e in omega arith
 

@@ -22,7 +22,7 @@ use Rattle.script_front.proofs.Rules.{HeadAt, view, close_form, right_form, oper
 use Rattle.script_front.proofs.Trees.{int_expr, binary_expr, int-spelling, int_is_written}
 
 -- where an expression is missing, 0 completes what was taken
-zero_plain : AllPlain (spell_expr (int_expr (pos 0)))
+pub zero_plain : AllPlain (spell_expr (int_expr (pos 0)))
 zero_plain = subst AllPlain (sym (int-spelling (pos 0))) (refl, tt)
 
 -- an expression begins with one of these tokens

@@ -6,6 +6,7 @@ ghost use Rattle.script_front.specs.Halts.{Halts};
 ghost use Rattle.script_front.specs.Words.{operator_symbol};
 ghost use Rattle.script_front.specs.Written.{is_written_operator};
 ghost use Rattle.script_front.specs.declared.token.Token.TheVariants.{Word, Mark};
+ghost use Rattle.script_front.specs.declared.token.Keyword.TheVariants.{Print};
 ghost use Rattle.script_front.specs.declared.token.Symbol.TheVariants.{OpenParenthesis};
 
 use crate::halt::Halt;
@@ -122,13 +123,84 @@ fn binary_at(alloc: Global, tokens: &[Token]) -> Result<(Expr, &[Token]), Halt<'
     Ok((Expr { head }, rest))
 }
 
-/// The script that these tokens spell.
+/// The statement at the front.
+#[tactic(auto, using(crate::proofs::StatementSteps::no_stmt))]
+fn stmt_at(alloc: Global, tokens: &[Token]) -> Result<(Stmt, &[Token]), Halt<'_>>
+    ensures read { IfOk result (λ f. Reads stmt_form tokens.now f.0 f.1.now) }
+    ensures stop { IfErr result (λ h. Halts stmt_form tokens.now h) }
+    ensures shorter { IfOk result (λ f. length f.1.now < length tokens.now) }
+{
+    match tokens {
+        [Token::Word(Keyword::Print), rest @ ..] => print_at(alloc, rest),
+        _ => Err(Halt::Stop(tokens)),
+    }
+}
+
+/// The statement whose word `print` was taken.
+fn print_at(alloc: Global, tokens: &[Token]) -> Result<(Stmt, &[Token]), Halt<'_>>
+    ensures read { IfOk result (λ f. Reads stmt_form (Word Print ∷ tokens.now) f.0 f.1.now) }
+    ensures stop { IfErr result (λ h. Halts stmt_form (Word Print ∷ tokens.now) h) }
+    ensures shorter { IfOk result (λ f. length f.1.now < length tokens.now) }
+{
+    let (value, rest) = expr_at(alloc, tokens)?;
+    let rest = after(rest, Symbol::Semicolon)?;
+    Ok((Stmt::Print(value), rest))
+}
+
+/// The statements up to the brace that closes their block, and the tokens after it.
+fn stmts_at(alloc: Global, tokens: &[Token]) -> Result<(Items<Stmt>, &[Token]), Halt<'_>>
+    ensures read { IfOk result (λ f. Reads stmts_form tokens.now f.0 f.1.now) }
+    ensures stop { IfErr result (λ h. Halts stmts_form tokens.now h) }
+{
+    let mut stmts = Items::new(alloc);
+    let mut rest = tokens;
+    'row: loop {
+        if let Some(rest) = past(rest, Symbol::CloseBrace) {
+            return Ok((stmts, rest));
+        }
+        let (stmt, more) = stmt_at(alloc, rest)?;
+        stmts.push(stmt)?;
+        rest = more;
+    }
+}
+
+/// The block at the front.
+fn block_at(alloc: Global, tokens: &[Token]) -> Result<(Block, &[Token]), Halt<'_>>
+    ensures read { IfOk result (λ f. Reads block_form tokens.now f.0 f.1.now) }
+    ensures stop { IfErr result (λ h. Halts block_form tokens.now h) }
+{
+    let rest = after(tokens, Symbol::OpenBrace)?;
+    let (stmts, rest) = stmts_at(alloc, rest)?;
+    Ok((Block(stmts), rest))
+}
+
+/// The task at the front.
+fn task_at(alloc: Global, tokens: &[Token]) -> Result<(Task, &[Token]), Halt<'_>>
+    ensures read { IfOk result (λ f. Reads task_form tokens.now f.0 f.1.now) }
+    ensures stop { IfErr result (λ h. Halts task_form tokens.now h) }
+{
+    let rest = after_word(tokens, Keyword::Task)?;
+    let (name, rest) = name_at(rest)?;
+    let (body, rest) = block_at(alloc, rest)?;
+    Ok((Task { name, body }, rest))
+}
+
+/// The script that these tokens spell: none or one task, and no token after it.
+///
+/// Where they spell none, it stops at the first token with which no script goes on, or at the end where
+/// tokens are missing.
 pub fn parse(alloc: Global, tokens: &[Token]) -> Result<Script, Halt<'_>>
     ensures read { IfOk result (λ s. Reads script_form tokens.now s []) }
     ensures stop { IfErr result (λ h. Halts script_form tokens.now h) }
 {
-    let _tokens = tokens;
-    let mut room: Vec<u8> = Vec::new(alloc);
-    room.reserve(1)?;
-    Err(Halt::Memory)
+    let mut tasks = Items::new(alloc);
+    if tokens.is_empty() {
+        return Ok(Script { tasks });
+    }
+    let (task, rest) = task_at(alloc, tokens)?;
+    if !rest.is_empty() {
+        return Err(Halt::Stop(rest));
+    }
+    tasks.push(task)?;
+    Ok(Script { tasks })
 }
