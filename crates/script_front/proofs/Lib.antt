@@ -10,3 +10,15 @@ pub mod SymbolFronts
 pub mod TextFronts
 pub mod WordFronts
 pub mod IntegerFronts
+mod Exits
+mod ExpressionLaws
+mod Fronts
+mod Items
+mod ParseOutcomes
+mod Rules
+mod StatementLaws
+mod StatementRules
+mod StatementSteps
+mod Steps
+mod Trees
+mod Unique

@@ -2,6 +2,7 @@
 #![tactic(auto)]
 
 mod halt;
+mod laws;
 mod lexer;
 mod limits;
 mod numbering;
@@ -13,6 +14,7 @@ mod sites;
 mod token;
 mod tree;
 
+pub use laws::trees_have_distinct_spellings;
 pub use limits::{MOST_BYTES, MOST_OPEN_BRACKETS, MOST_SITES};
 pub use program::Program;
 pub use reading::{ReadFault, ScriptRefused, read};
