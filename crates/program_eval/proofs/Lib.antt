@@ -1,0 +1,5 @@
+pub mod Trees
+pub mod Deeds
+pub mod Parts
+pub mod SiteLists
+pub mod Evaluations
