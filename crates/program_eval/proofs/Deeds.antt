@@ -1,12 +1,14 @@
 -- How what a part of a task did follows from what its own parts did.
-use Rattle.std.proofs.Common.{◌≡◌, ℕ, suc, List, [], ◌∷◌, ◌++◌, Option, Some, refl, ap, sym, ◌∙◌, subst, append_assoc, append-nil}
+use Rattle.std.proofs.Common.{◌≡◌, ℕ, List, [], ◌∷◌, ◌++◌, Some, refl, ap, sym, ◌∙◌, subst, append_assoc, append-nil}
 use Rattle.dyn_value.specs.declared.value.Value.{Value}
 use Rattle.dyn_value.specs.declared.fault.Fault.{Fault}
-use Rattle.dyn_value.specs.declared.fault.Fault.TheVariants.{Depth}
 use Rattle.dyn_value.specs.declared.outcome.Outcome.{Outcome}
 use Rattle.program_eval.specs.declared.world.Asked.{Asked}
-use Rattle.program_eval.specs.Runs.{Lines, Begins, Ending, Gives, Fails, State, Deed, gives, fails, prints, followed, and_then, within, ending_of, answered}
+use Rattle.program_eval.specs.Runs.{Lines, Begins, Ending, Gives, Fails, State, Deed, gives, fails, prints, and_then, ending_of, answered}
 use Rattle.program_eval.specs.Walks.{plain_state, Comes}
+
+pub begins_then : {A : Type 0} (a b c : List A) → Begins a b → Begins b c → Begins a c
+begins_then a b c one two = (one.0 ++ two.0, two.1 ∙ ap (λ x. x ++ two.0) one.1 ∙ append_assoc a one.0 two.0)
 
 abbrev Plain : Type 0
 Plain = State (Unit {0})

@@ -3,3 +3,5 @@ pub mod Deeds
 pub mod Parts
 pub mod SiteLists
 pub mod Evaluations
+pub mod Executions
+pub mod TaskRuns

@@ -1,7 +1,6 @@
 -- What an expression does, and its sites, form by form.
 use Rattle.std.proofs.Common.{◌≡◌, ℕ, ◌+◌, List, [], ◌∷◌, ◌++◌, length, slice_get, Some, ℤ, ap, sym, ◌∙◌, subst, length-append, arith}
 use Rattle.dyn_value.specs.declared.operator.BinOp.{BinOp}
-use Rattle.dyn_value.specs.declared.value.Value.{Value}
 use Rattle.standard_binders.specs.declared.binder.Binder.{Binder}
 use Rattle.standard_binders.specs.declared.binder.Binder.TheVariants.{BinaryOperation}
 use Rattle.script_front.specs.declared.tree.Expr.{Expr}

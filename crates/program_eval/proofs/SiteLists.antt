@@ -1,6 +1,7 @@
 -- Where the sites of a part stand among those of the script.
-use Rattle.std.proofs.Common.{◌≡◌, ℕ, ◌+◌, ◌<◌, ◌≤◌, suc, List, [], ◌∷◌, ◌++◌, length, slice_get, Some, refl, ap, sym, ◌∙◌, append_assoc, length-append, get_or, arith}
+use Rattle.std.proofs.Common.{◌≡◌, ℕ, ◌+◌, ◌<◌, ◌≤◌, List, ◌∷◌, ◌++◌, length, take, flat_map, slice_get, Some, subst, ap, sym, ◌∙◌, append_assoc, length-append, get_or, arith}
 use Rattle.std.proofs.Math.Seq.{get_or-append_seam}
+use Rattle.std.proofs.lemmas.List.Folds.{length-flat_map-take}
 use Rattle.std.proofs.lemmas.Option.{slice_get-get_or}
 use Rattle.standard_binders.specs.declared.binder.Binder.{Binder}
 use Rattle.program_eval.specs.Walks.{HasSites}
@@ -36,3 +37,9 @@ binder_first binders site b rest has =
     ∙ ap (λ x. Some (get_or x site b)) whole
     ∙ ap (λ n. Some (get_or (has.before ++ b ∷ (rest ++ has.after)) n b)) (sym has.first)
     ∙ ap Some (get_or-append_seam has.before b (rest ++ has.after) b)
+
+-- the sites of an element are some of all
+pub element_sites : {A B : Type 0} (f : A → List B) (xs : List A) (i : ℕ) (x : A) → i < length xs → x ≡ get_or xs i x
+    → length (flat_map f (take i xs)) + length (f x) ≤ length (flat_map f xs)
+element_sites f xs i x inside is =
+    subst (λ y. length (flat_map f (take i xs)) + length (f y) ≤ length (flat_map f xs)) (sym is) (length-flat_map-take f xs i x inside)

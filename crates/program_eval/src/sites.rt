@@ -1,6 +1,6 @@
 ghost use Rattle.std.specs.Prelude.{◌≡◌, ◌≤◌, length, take};
 ghost use Rattle.std.specs.List.{flat_map};
-ghost use Rattle.script_front.specs.Sites.{expr_sites, block_sites, task_sites};
+ghost use Rattle.script_front.specs.Sites.{expr_sites, stmt_sites, block_sites, task_sites};
 
 use script_front::{Block, Expr, Head, Stmt, Task};
 
@@ -17,6 +17,16 @@ fn expr_site_count(expr: &Expr) -> u32
     }
 }
 
+/// How many sites a statement has.
+fn stmt_site_count(statement: &Stmt) -> u32
+    requires { length (stmt_sites statement.now) ≤ 4096 }
+    ensures { result ≡ length (stmt_sites statement.now) }
+{
+    match statement {
+        Stmt::Print(value) => expr_site_count(value),
+    }
+}
+
 /// How many sites a block has.
 fn block_site_count(block: &Block) -> u32
     requires { length (block_sites block.now) ≤ 4096 }
@@ -24,9 +34,7 @@ fn block_site_count(block: &Block) -> u32
 {
     let mut count = 0;
     for statement in block.0.as_slice() {
-        count += match statement {
-            Stmt::Print(value) => expr_site_count(value),
-        };
+        count += stmt_site_count(statement);
     }
     count
 }

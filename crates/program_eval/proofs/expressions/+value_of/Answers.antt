@@ -1,4 +1,4 @@
-use Rattle.std.proofs.Common.{rules, ◌≡◌, ◌+◌, ◌≤◌, ◌<◌, length, slice_get, Some, ap, sym, ◌∙◌, subst, arith}
+use Rattle.std.proofs.Common.{◌≡◌, ◌+◌, ◌≤◌, length, slice_get, Some, ap, sym, ◌∙◌, arith}
 use Rattle.std.proofs.lemmas.Result.{err_from_is_err_and}
 use Rattle.dyn_value.specs.declared.outcome.Outcome.TheVariants as outcome
 use Rattle.standard_binders.specs.declared.binder.Binder.TheVariants.{BinaryOperation}
@@ -7,7 +7,7 @@ use Rattle.program_eval.specs.Walks.{HasSites}
 use Rattle.program_eval.proofs.Evaluations.{ends_right_stopped, comes_binary}
 use Rattle.program_eval.proofs.Parts.{length_sites, left_sites, right_sites, operator_binder}
 use Rattle.program_eval.proofs.SiteLists.{sites_within}
-use Rattle.program_eval.proofs.Trees.{binary_expr, binary_by_head}
+use Rattle.program_eval.proofs.Trees.{binary_by_head}
 use Rattle.program_eval.proofs.expressions.+value_of.Goals as goal
 
 pub value_of-requires : goal.value_of-requires
