@@ -2,8 +2,12 @@
 #![tactic(auto)]
 
 mod ended;
+mod expressions;
 mod printed;
 mod running;
+mod sites;
+mod statements;
+mod stop;
 mod world;
 
 pub use ended::Ended;

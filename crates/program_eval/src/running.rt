@@ -4,10 +4,16 @@ ghost use Rattle.program_eval.specs.Runs.{plain_objects, task_run, Begins};
 
 use crate::ended::Ended;
 use crate::printed::Printed;
+use crate::sites::tasks_site_count;
+use crate::statements::run_statements;
+use crate::stop::Stop;
 use crate::world::World;
 use script_front::Program;
 use std::alloc::{AllocError, Global};
 use std::sync::Wait;
+
+/// The most levels that may be open at once.
+const MOST_LEVELS: u32 = 256;
 
 /// Runs a task of the program: its printed lines are added to `printed`, and its operations are asked of the
 /// world, which answers for this program.
@@ -31,13 +37,15 @@ pub fn run_task<R: Wait, W: World>(
     ensures refused_asked { OnErr result (Begins (W.asked world.old) (W.asked world.new)) }
     ensures script { W.script world.new ≡ W.script world.old }
 {
-    let _rt = rt;
-    let _program = program;
-    let _task = task;
+    // Nothing that is built so far counts a turn.
     let _turns = turns;
-    let _world = world;
-    let _printed = printed;
-    let mut room: Vec<u8> = Vec::new(alloc);
-    room.reserve(1)?;
-    Err(AllocError)
+    let tasks = program.tasks();
+    let place = task as usize;
+    let site = tasks_site_count(&tasks[..place]);
+    let statements = tasks[place].body.0.as_slice();
+    match run_statements(rt, alloc, statements, site, MOST_LEVELS, world, printed) {
+        Ok(_after) => Ok(Ended::Done),
+        Err(Stop::Fault(fault)) => Ok(Ended::Faulted(fault)),
+        Err(Stop::Memory) => Err(AllocError),
+    }
 }
