@@ -1,8 +1,14 @@
 //! The command `dlr`: from its words and the bytes of a source to a status and the bytes in a sink.
 #![tactic(auto)]
 
+mod clean_sink;
+mod clean_source;
 mod command;
 mod gate;
+mod input_source;
+mod intake;
+mod output;
+mod output_sink;
 mod rendering;
 mod report;
 mod sink;
@@ -10,8 +16,12 @@ mod source;
 mod status;
 mod tasks;
 
+pub use clean_sink::CleanSink;
+pub use clean_source::CleanSource;
 pub use command::{TopOutcome, top};
 pub use gate::{Gate, OpenGate};
+pub use input_source::InputSource;
+pub use output_sink::OutputSink;
 pub use rendering::render;
 pub use report::{Report, TaskEnd};
 pub use sink::Sink;
