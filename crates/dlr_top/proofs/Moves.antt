@@ -1,5 +1,5 @@
 -- How the bytes of a source and of a sink go on from call to call.
-use Rattle.std.proofs.Common.{◌≡◌, ℕ, ◌+◌, ◌-◌, ◌<◌, ◌≤◌, List, [], ◌++◌, length, take, drop, Option, None, Some, refl, sym, ◌∙◌, ap, subst, arith, append_assoc, take-append-drop}
+use Rattle.std.proofs.Common.{◌≡◌, ℕ, ◌+◌, ◌-◌, ◌<◌, ◌≤◌, ◌⊎◌, inl, inr, IfSome, List, [], ◌++◌, length, take, drop, Option, None, Some, refl, sym, ◌∙◌, ap, subst, arith, append_assoc, take-append-drop}
 use Rattle.std.proofs.lemmas.List.{append-nil, take_at, take_all, drop_at, drop_all, drop-drop}
 use Rattle.std.proofs.Math.Seq.{take-add}
 use Rattle.dlr_top.specs.Devices.{TakesFirst, IsAtEnd, IsReadThrough, Adds, AddsFirst}
@@ -28,6 +28,35 @@ takes_on (Some held) (Some left) after first second (rest, (split, is)) (last, (
 pub stays_at_end : (before after : Option (List ℕ)) → TakesFirst before after [] → IsAtEnd before → IsAtEnd after
 stays_at_end None after is ends = subst IsAtEnd (sym is) tt
 stays_at_end (Some held) after (rest, (split, is)) ends = subst IsAtEnd (sym is) (sym split ∙ ends)
+
+-- a source that was read up to a number of bytes, or to its end
+left_over : (most : ℕ) (bytes rest : List ℕ) → length bytes ≤ most → (length bytes ≡ most) ⊎ (rest ≡ []) → drop most (bytes ++ rest) ≡ rest
+left_over most bytes rest few (inl all) = drop_at bytes rest most all
+left_over most bytes rest few (inr ends) =
+    ap (λ (l : List ℕ). drop most (bytes ++ l)) ends ∙ ap (λ (l : List ℕ). drop most l) (append-nil bytes) ∙ drop_all most bytes few ∙ sym ends
+
+brought : (most : ℕ) (bytes rest : List ℕ) → length bytes ≤ most → (length bytes ≡ most) ⊎ (rest ≡ []) → bytes ≡ take most (bytes ++ rest)
+brought most bytes rest few (inl all) = sym (take_at bytes rest most all)
+brought most bytes rest few (inr ends) =
+    sym (take_all most bytes few) ∙ ap (λ (l : List ℕ). take most l) (sym (append-nil bytes)) ∙ ap (λ (l : List ℕ). take most (bytes ++ l)) (sym ends)
+
+-- reading ended at the most that is read, or at the end of the source
+abbrev pub Ended : Option (List ℕ) → List ℕ → Type 0
+Ended after bytes = (length bytes ≡ 1048577) ⊎ IsAtEnd after
+
+nothing_left : (after : Option (List ℕ)) (rest bytes : List ℕ) → after ≡ Some rest → Ended after bytes → (length bytes ≡ 1048577) ⊎ (rest ≡ [])
+nothing_left after rest bytes is (inl all) = inl all
+nothing_left after rest bytes is (inr ends) = inr (subst IsAtEnd is ends)
+
+pub all_read : (before after : Option (List ℕ)) (bytes : List ℕ) → TakesFirst before after bytes → length bytes ≤ 1048577 → Ended after bytes → IfSome before (λ held. bytes ≡ take 1048577 held)
+all_read None after bytes takes few ended = tt
+all_read (Some held) after bytes (rest, (split, is)) few ended =
+    brought 1048577 bytes rest few (nothing_left after rest bytes is ended) ∙ ap (λ (l : List ℕ). take 1048577 l) (sym split)
+
+pub read_through : (before after : Option (List ℕ)) (bytes : List ℕ) → TakesFirst before after bytes → length bytes ≤ 1048577 → Ended after bytes → IsReadThrough before after
+read_through None after bytes takes few ended = takes
+read_through (Some held) after bytes (rest, (split, is)) few ended =
+    is ∙ ap (λ (l : List ℕ). Some l) (sym (left_over 1048577 bytes rest few (nothing_left after rest bytes is ended)) ∙ ap (λ (l : List ℕ). drop 1048577 l) (sym split))
 
 pub adds_nothing : (before : Option (List ℕ)) → Adds before before []
 adds_nothing None = refl

@@ -46,12 +46,31 @@ pub(crate) fn read_all<S: Source>(alloc: Global, source: &mut S) -> Result<Vec<u
     ensures through { OnOk result (IsReadThrough (S.held source.old) (S.held source.new)) }
     ensures cause { IsErrOf result Unread.SourceFailed → Rose (S.faults source.old) (S.faults source.new) }
 {
-    let mut room = vec![in alloc; 0; PIECE_BYTES]?;
-    let piece = room.as_mut_slice();
+    let mut piece = zeros(alloc, PIECE_BYTES)?;
+    read_by_pieces(alloc, source, piece.as_mut_slice())
+}
+
+fn zeros(alloc: Global, count: usize) -> Result<Vec<u8>, AllocError>
+    ensures { IfOk result (λ bytes. vec_len bytes ≡ count) }
+{
+    vec![in alloc; 0; count]
+}
+
+// `read_all`, by way of a piece that each read fills.
+fn read_by_pieces<S: Source>(
+    alloc: Global,
+    source: &mut S,
+    piece: &mut [u8],
+) -> Result<Vec<u8>, Unread>
+    requires { 0 < length piece.old }
+    ensures bytes { IfOk result (λ bytes. IfSome (S.held source.old) (λ held. bytes.items ≡ take 1048577 held)) }
+    ensures through { OnOk result (IsReadThrough (S.held source.old) (S.held source.new)) }
+    ensures cause { IsErrOf result Unread.SourceFailed → Rose (S.faults source.old) (S.faults source.new) }
+{
     let mut bytes = Vec::new(alloc);
     while bytes.len() < MOST_READ {
         if read_piece(source, piece, &mut bytes)? == 0 {
-            break;
+            return Ok(bytes);
         }
     }
     Ok(bytes)

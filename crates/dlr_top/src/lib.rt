@@ -7,6 +7,7 @@ mod command;
 mod gate;
 mod input_source;
 mod intake;
+mod loading;
 mod output;
 mod output_sink;
 mod rendering;
@@ -15,6 +16,7 @@ mod sink;
 mod source;
 mod status;
 mod tasks;
+mod words;
 
 pub use clean_sink::CleanSink;
 pub use clean_source::CleanSource;
