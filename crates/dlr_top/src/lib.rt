@@ -4,6 +4,7 @@
 mod clean_sink;
 mod clean_source;
 mod command;
+mod execution;
 mod gate;
 mod input_source;
 mod intake;
