@@ -5,21 +5,55 @@ ghost use Rattle.dlr_top.specs.Devices.{Rose, Adds, AddsFirst, IsReadThrough};
 ghost use Rattle.dlr_top.specs.Headline.{Reports, run_words};
 ghost use Rattle.dlr_top.specs.Rendering.{usage_text, refusal_text};
 
+use crate::execution::execute;
 use crate::gate::Gate;
+use crate::loading::{Unloaded, load};
+use crate::output::{Unwritten, deliver};
 use crate::report::Report;
 use crate::sink::Sink;
 use crate::source::Source;
 use crate::status;
+use crate::words::is_run;
 use dyn_value::DynText;
 use std::alloc::Global;
 use std::sync::Wait;
 use std::thread::Threads;
+
+/// What is written where the words are no command.
+const USAGE: &str = "usage: dlr run [--serial] [--journal] [--stats] [--rules] [--turns N] [--objects N] | check | drill SEED\n";
+
+/// What is written where the script is refused.
+const REFUSAL: &str = "refused: NotBuilt\n";
 
 /// How the command ended: its status, and the report where there is one.
 #[derive(Debug, Drop)]
 pub struct TopOutcome {
     pub status: u8,
     pub report: Option<Report>,
+}
+
+impl TopOutcome {
+    ghost use Rattle.std.specs.Prelude.{◌≡◌, None, Some};
+
+    pub(crate) fn without_report(status: u8) -> TopOutcome
+        ensures status { result.status ≡ status }
+        ensures report { result.report ≡ None }
+    {
+        TopOutcome {
+            status,
+            report: None,
+        }
+    }
+
+    pub(crate) fn with_report(status: u8, report: Report) -> TopOutcome
+        ensures status { result.status ≡ status }
+        ensures report { result.report ≡ Some report }
+    {
+        TopOutcome {
+            status,
+            report: Some(report),
+        }
+    }
 }
 
 /// The command: its words, a source that the script is read from, and a sink that the text is written to.
@@ -62,14 +96,30 @@ pub fn top<R: Threads + Wait, S: Source, K: Sink, G: Gate>(
     // A script whose source and sink do not fail is run, unless memory is refused.
     ensures complete { words.now ≡ run_words → (Rose (S.faults source.old) (S.faults source.new) → ⊥) → (Rose (K.faults sink.old) (K.faults sink.new) → ⊥) → IfSome (S.held source.old) (λ bytes. (script : Script) → IsScript bytes script → (result.status ≡ 0) ⊎ (result.status ≡ 1) ⊎ (result.status ≡ 3)) }
 {
-    let _rt = rt;
-    let _alloc = alloc;
-    let _words = words;
-    let _source = source;
-    let _sink = sink;
     let _gate = gate;
-    TopOutcome {
-        status: status::MEMORY,
-        report: None,
+    if !is_run(words) {
+        return TopOutcome::without_report(announce(sink, USAGE, status::WORDS_REFUSED));
+    }
+    match load(alloc, source) {
+        Ok(program) => execute(rt, alloc, &program, sink),
+        Err(Unloaded::SourceFailed) => TopOutcome::without_report(status::SOURCE_FAILED),
+        Err(Unloaded::Refused) => {
+            TopOutcome::without_report(announce(sink, REFUSAL, status::REFUSED))
+        }
+        Err(Unloaded::Memory) => TopOutcome::without_report(status::MEMORY),
+    }
+}
+
+// Writes a line that takes the place of a report, and answers this status, or `MEMORY`.
+fn announce<K: Sink>(sink: &mut K, line: &str, status: u8) -> u8
+    requires { status ≢ 3 }
+    ensures answer { (result ≡ status) ⊎ (result ≡ 3) }
+    ensures first { result ≡ status → AddsFirst (K.has sink.old) (K.has sink.new) line.now }
+    ensures whole { result ≡ status → (Rose (K.faults sink.old) (K.faults sink.new) → ⊥) → Adds (K.has sink.old) (K.has sink.new) line.now }
+    ensures memory { result ≡ 3 → (K.has sink.new ≡ K.has sink.old) × (K.faults sink.new ≡ K.faults sink.old) }
+{
+    match deliver(sink, line.as_bytes()) {
+        Ok(()) | Err(Unwritten::SinkFailed) => status,
+        Err(Unwritten::Memory) => status::MEMORY,
     }
 }

@@ -1,17 +1,30 @@
 //! The command `dlr`: from its words and the bytes of a source to a status and the bytes in a sink.
 #![tactic(auto)]
 
+mod clean_sink;
+mod clean_source;
 mod command;
+mod execution;
 mod gate;
+mod input_source;
+mod intake;
+mod loading;
+mod output;
+mod output_sink;
 mod rendering;
 mod report;
 mod sink;
 mod source;
 mod status;
 mod tasks;
+mod words;
 
+pub use clean_sink::CleanSink;
+pub use clean_source::CleanSource;
 pub use command::{TopOutcome, top};
 pub use gate::{Gate, OpenGate};
+pub use input_source::InputSource;
+pub use output_sink::OutputSink;
 pub use rendering::render;
 pub use report::{Report, TaskEnd};
 pub use sink::Sink;
