@@ -8,8 +8,6 @@ use Rattle.std.proofs.lemmas.Bool.Decides.{nat_tests}
 use Rattle.std.proofs.lemmas.Result.{err_from_is_err_and}
 use Rattle.script_front.specs.declared.token.Token.{Token}
 use Rattle.script_front.specs.declared.tree.Script.{Script}
-use Rattle.script_front.specs.Forms.{Stops, GoesOnAs}
-use Rattle.script_front.specs.Grammar.{script_form}
 use Rattle.script_front.specs.Lexemes.{AreTokens}
 use Rattle.script_front.specs.Script.{IsScript}
 use Rattle.script_front.specs.Shallow.{IsShallow}
@@ -20,15 +18,6 @@ use Rattle.script_front.specs.Written.{is_written, is_written_task}
 -- the fault that an exit hands on is the one that it got
 pub passed_on : {T E : Type 0} (r : Result T E) (got given : E) → IsErrAnd r (λ e. e ≡ got) → IsErrOf r given → got ≡ given
 passed_on r got given is at = let p = err_from_is_err_and r is in cc
-
-goes_on_itself : (ts : List Token) → GoesOnAs ts ts
-goes_on_itself [] = refl
-goes_on_itself (t ∷ ts) = (ts, refl)
-
--- where the reading of a script stops, no script has the tokens
-pub stopped_none : (ts rest : List Token) → Stops script_form ts rest → (s : Script) → is_written s ≡ true → spell s ≡ ts → ⊥
-stopped_none ts rest stops s written same =
-    stops.stuck rest (goes_on_itself rest) s [] (written, refl) (sym stops.split ∙ sym same ∙ sym (append-nil (spell s)))
 
 at_most_one : (n : ℕ) (b : Bool) → (nat_le n 1 && b) ≡ true → n ≤ 8
 at_most_one n b e = grind (arith, nat_tests)
