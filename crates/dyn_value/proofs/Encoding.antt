@@ -16,7 +16,7 @@ use Rattle.std.proofs.lemmas.Fmt.{IsAscii-decimal, IsAscii-signed, length-decima
 pub bytes_of_view : (bs cs : List ℕ) → IsUtf8 bs → chars bs ≡ cs → encode_utf8_all cs ≡ bs
 bytes_of_view bs cs text view = ap encode_utf8_all (sym view) ∙ encodes-chars bs text
 
--- two texts seen as the same characters have the same bytes, and the other way round
+-- two texts that are seen as the same characters have the same bytes
 pub bytes_same : (bs ds cs es : List ℕ) → IsUtf8 bs → IsUtf8 ds → chars bs ≡ cs → chars ds ≡ es → cs ≡ es → bs ≡ ds
 bytes_same bs ds cs es bt dt bv dv same = sym (bytes_of_view bs cs bt bv) ∙ ap encode_utf8_all same ∙ bytes_of_view ds es dt dv
 
@@ -67,6 +67,7 @@ chars_label bs h = chars-IsAscii bs (ascii_label bs h)
 pub chars_labelled : (bs ds : List ℕ) → list_all is_ascii bs ≡ true → IsAscii ds → chars (bs ++ ds) ≡ bs ++ ds
 chars_labelled bs ds h ascii = chars-IsAscii (bs ++ ds) (IsAscii-append bs ds (ascii_label bs h) ascii)
 
+-- a decimal number is ASCII
 pub ascii_signed : (z : ℤ) → FitsSigned w64 z → IsAscii (signed_decimal z)
 ascii_signed z fits = IsAscii-signed z fits.sfits
 

@@ -23,6 +23,7 @@ fits (negsuc n) = nat_lt n (2 ^ 63)
 abbrev pub whole : ℤ → Result Value Fault
 whole z = if fits z then Ok (Int z) else Err Overflow
 
+-- a truth value
 abbrev pub truth : Bool → Result Value Fault
 truth b = Ok (Truth b)
 
@@ -41,10 +42,12 @@ on_ordered p (Int a) (Int b) = truth (p (int_cmp a b))
 on_ordered p (Text s) (Text t) = truth (p (slice_cmp nat_cmp (encode_utf8_all s) (encode_utf8_all t)))
 on_ordered p _ _ = Err NoOperator
 
+-- an operation on two truth values
 abbrev pub on_truths : (Bool → Bool → Bool) → Value → Value → Result Value Fault
 on_truths f (Truth a) (Truth b) = truth (f a b)
 on_truths f _ _ = Err NoOperator
 
+-- the sum of two numbers, or two texts joined
 abbrev pub sum_of : Value → Value → Result Value Fault
 sum_of (Int a) (Int b) = whole (a +ℤ b)
 sum_of (Text s) (Text t) = joined (s ++ t)

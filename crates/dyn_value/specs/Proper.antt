@@ -9,6 +9,7 @@ use Rattle.dyn_value.specs.declared.value.Value.TheVariants.{Nil, Bool, Int, Tex
 abbrev pub IsText : List ℕ → Type 0
 IsText cs = (scalars cs ≡ true) × (length (encode_utf8_all cs) ≤ 65536)
 
+-- a number within 64 bits, a text as above, one of 256 functions or of 4,096 objects
 abbrev pub IsProper : Value → Type 0
 IsProper Nil = Unit {0}
 IsProper (Bool b) = Unit {0}

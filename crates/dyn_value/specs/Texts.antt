@@ -36,6 +36,7 @@ abbrev pub quoted : Value → List ℕ
 quoted (value.Text t) = quoted_text t
 quoted v = plain v
 
+-- the name of a kind
 abbrev pub kind_name : Kind → List ℕ
 kind_name kind.Nil = codes "Nil"
 kind_name kind.Bool = codes "Bool"

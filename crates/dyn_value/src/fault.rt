@@ -72,7 +72,7 @@ impl Fault {
         }
     }
 
-    /// An equal fault.
+    /// An equal fault. The one error is want of memory.
     pub fn copy(&self) -> Result<Fault, AllocError>
         ensures { IfOk result (λ f. f ≡ self.now) }
     {

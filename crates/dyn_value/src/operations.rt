@@ -45,6 +45,8 @@ pub fn unary(op: UnOp, value: &Value) -> Result<Value, Fault>
 ///   numbers, and two `Text`s by their bytes.
 /// - `And` and `Or` are those of two `Bool`s.
 /// - On every other pair of kinds each gives `NoOperator`.
+///
+/// The inner result is the answer; the outer one fails for want of memory alone.
 pub fn binary(
     alloc: Global,
     op: BinOp,

@@ -64,7 +64,7 @@ impl DynText {
         String::from_str(alloc, self.text.as_str())
     }
 
-    /// An equal text.
+    /// An equal text. The one error is want of memory.
     pub fn copy(&self) -> Result<DynText, AllocError>
         ensures { IfOk result (λ t. t ≡ self.now) }
     {

@@ -78,7 +78,7 @@ impl Value {
         }
     }
 
-    /// An equal value.
+    /// An equal value. The one error is want of memory.
     pub fn copy(&self) -> Result<Value, AllocError>
         ensures { IfOk result (λ v. v ≡ self.now) }
     {
@@ -92,7 +92,7 @@ impl Value {
         })
     }
 
-    /// The plain text of the value.
+    /// The plain text of the value. The one error is want of memory.
     pub fn to_text(&self, alloc: Global) -> Result<DynText, AllocError>
         ensures { IfOk result (λ t. t ≡ plain self.now) }
     {
