@@ -83,7 +83,7 @@ digits_mean ds n digits lead value small =
     = decimal-digits_value (numerals_by_value _ tells_digits) ds (all_digits ds (digits_all ds digits)) some (λ e. omega (arith, lead e)) (omega arith) in
     (n, (sym written ∙ ap decimal (sym value), small, refl))
 
--- what a number in 63 bits or more gives
+-- what digits with no leading zero mean, by whether their number fits 64 bits with a sign
 pub integer_means : {E : Type 0} (ds : List ℕ) (n : ℕ) (r : Result ℤ E) → IsDigits ds → (get_or ds 0 0 ≡ 48 → length ds ≤ 1) → n ≡ digits_value 10 ds
     → OkIff r (FitsSigned w64 (pos n)) (pos n) → MatchOption (result_ok r) (MeansNothing ds) (λ z. Means ds (Int z))
 integer_means ds n (Ok z) digits lead value fits =
@@ -97,7 +97,7 @@ integer_means ds n (Err e) digits lead value fits = great_means_nothing ds digit
 pub other_leads : (ds : List ℕ) (x : ℕ) → IsDigits ds → x ≡ get_or ds 0 x → x ≢ 48 → get_or ds 0 0 ≡ 48 → length ds ≤ 1
 other_leads ds x digits first other zero_is = absurd (other (get_or_read ds 0 x (some_digits ds digits) first 0 ∙ zero_is))
 
--- what the value and a further digit write
+-- a digit more: what the number is then, which is within the whole
 pub one_digit_more : (ds : List ℕ) (i v x : ℕ) → IsDigits ds → i < length ds → x ≡ get_or ds i x → v ≡ digits_value 10 (take i ds)
     → (48 ≤ x) × (digits_value 10 (take (i + 1) ds) ≡ v * 10 + (x - 48)) × (v * 10 + (x - 48) ≤ digits_value 10 ds)
 one_digit_more ds i v x digits within read value =
@@ -106,7 +106,7 @@ one_digit_more ds i v x digits within read value =
     let more = digits_value_more 10 ds i within in
     (omega arith, omega arith, omega (arith, digits_value-take-le 10 ds (i + 1) (omega arith)))
 
--- a numeral that a token means is in range
+-- the integer that digits mean is read back as it was
 pub integer_reads : (ds : List ℕ) (z : ℤ) → Means ds (Int z) → Means ds (Int (to_z w64 (of_z w64 z)))
 integer_reads ds z m =
     let fits : FitsSigned w64 z = subst (FitsSigned w64) (sym m.1.2) (record { sfits = m.1.1 }) in

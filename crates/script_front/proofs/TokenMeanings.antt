@@ -20,7 +20,7 @@ use Rattle.script_front.specs.Lexemes.{IsWord, IsDigits, Means}
 use Rattle.script_front.proofs.FirstCharacters.{Kind, first_kind, words_kind, digits_kind, symbol_kind}
 use Rattle.script_front.proofs.FirstCharacters.Kind.{Words, Integers, Others}
 
--- the keyword with this text, if there is one
+-- the keyword with this text; the last one where there is none
 keyword_at : List ℕ → Keyword
 keyword_at cs =
     cond (bytes_eq cs (codes "shared")) word.Shared
@@ -90,7 +90,7 @@ keyword_is_word word.Int = (refl, refl)
 keyword_is_word word.Text = (refl, refl)
 keyword_is_word word.Bool = (refl, refl)
 
--- the symbol with this text, if there is one
+-- the symbol with this text; the last one where there is none
 symbol_at : List ℕ → Symbol
 symbol_at cs =
     cond (bytes_eq cs (codes "(")) mark.OpenParenthesis

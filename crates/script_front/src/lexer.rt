@@ -1,8 +1,8 @@
 ghost use Rattle.std.specs.Prelude.{◌≡◌, ◌≤◌, List, ◌++◌, length, drop, IfOk, IfErr, OnOk};
 ghost use Rattle.script_front.specs.declared.token.Token.{Token};
-ghost use Rattle.script_front.specs.TextFronts.{tokens_of};
 ghost use Rattle.script_front.specs.Halts.{Unlexes};
 ghost use Rattle.script_front.specs.Lexemes.{AreTokens};
+ghost use Rattle.script_front.specs.TextFronts.{tokens_of};
 
 mod front;
 mod integer;

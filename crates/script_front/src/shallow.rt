@@ -56,7 +56,11 @@ mod tests {
                     tokens.push(Token::Mark(symbol))?;
                 }
             }
-            assert_eq!(rt; is_shallow(tokens.as_slice()), want, "{before} {first} {between} {last}");
+            assert_eq!(rt;
+                is_shallow(tokens.as_slice()),
+                want,
+                "{before} {first} {between} {last}"
+            );
         }
         Ok(())
     }
