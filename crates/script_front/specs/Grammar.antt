@@ -1,7 +1,8 @@
 -- The grammar, as forms.
-use Rattle.std.specs.Prelude.{◌≡◌, ℕ, true, List, [], ◌∷◌, ◌++◌}
+use Rattle.std.specs.Prelude.{◌≡◌, ◌≢◌, ℕ, true, List, [], ◌∷◌, ◌++◌}
 use Rattle.std.specs.List.{flat_map, list_all}
 use Rattle.dyn_value.specs.declared.operator.BinOp.{BinOp}
+use Rattle.script_front.specs.declared.token.Symbol.{Symbol}
 use Rattle.script_front.specs.declared.token.Symbol.TheVariants as mark
 use Rattle.script_front.specs.declared.token.Token.{Token}
 use Rattle.script_front.specs.declared.token.Token.TheVariants.{Name, Mark}
@@ -19,6 +20,11 @@ use Rattle.script_front.specs.Written.{is_written, is_written_task, is_written_b
 abbrev pub BeginsNot : Token → Tokens → Type 0
 BeginsNot t ts = (rest : Tokens) → ts ≡ t ∷ rest → ⊥
 
+-- no operator that can be written has this symbol
+abbrev pub HasNoOperator : Symbol → Type 0
+HasNoOperator symbol = (op : BinOp) → is_written_operator op ≡ true → symbol ≢ operator_symbol op
+
+-- an identifier that is no keyword
 abbrev pub name_form : Form
 name_form = record { Tree = List ℕ; tokens = λ n. Name n ∷ []; May = λ n post. Unit {0} }
 
