@@ -30,24 +30,36 @@ name_form = record { Tree = List ℕ; tokens = λ n. Name n ∷ []; May = λ n p
 
 -- the symbol of an operator between two operands
 abbrev pub operator_form : Form
-operator_form = record { Tree = BinOp; tokens = λ op. Mark (operator_symbol op) ∷ []; May = λ op post. is_written_operator op ≡ true }
+operator_form = record {
+  Tree = BinOp;
+  tokens = λ op. Mark (operator_symbol op) ∷ [];
+  May = λ op post. is_written_operator op ≡ true;
+}
 
+-- an expression, whatever follows it
 abbrev pub expr_form : Form
 expr_form = record { Tree = Expr; tokens = spell_expr; May = λ e post. is_written_expr e ≡ true }
 
+-- a statement, whatever follows it
 abbrev pub stmt_form : Form
 stmt_form = record { Tree = Stmt; tokens = spell_stmt; May = λ s post. is_written_stmt s ≡ true }
 
 -- statements, and the brace that closes their block
 abbrev pub stmts_form : Form
-stmts_form = record { Tree = List Stmt; tokens = λ ss. flat_map spell_stmt ss ++ Mark mark.CloseBrace ∷ []; May = λ ss post. list_all is_written_stmt ss ≡ true }
+stmts_form = record {
+  Tree = List Stmt;
+  tokens = λ ss. flat_map spell_stmt ss ++ Mark mark.CloseBrace ∷ [];
+  May = λ ss post. list_all is_written_stmt ss ≡ true;
+}
 
+-- statements between braces
 abbrev pub block_form : Form
 block_form = record { Tree = Block; tokens = spell_block; May = λ b post. is_written_block b ≡ true }
 
+-- the word `task`, a name and a block
 abbrev pub task_form : Form
 task_form = record { Tree = Task; tokens = spell_task; May = λ t post. is_written_task t ≡ true }
 
--- a script is all that there is
+-- a script, after which nothing stands
 abbrev pub script_form : Form
 script_form = record { Tree = Script; tokens = spell; May = λ s post. (is_written s ≡ true) × (post ≡ []) }

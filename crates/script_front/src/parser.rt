@@ -184,8 +184,8 @@ fn task_at(alloc: Global, tokens: &[Token]) -> Result<(Task, &[Token]), Halt<'_>
 
 /// The script that these tokens spell: none or one task, and no token after it.
 ///
-/// Where they spell none, it stops at the first token with which no script goes on, or at the end where
-/// tokens are missing.
+/// Where they spell none, [`Halt::Stop`] hands back those from the first one on with which no script goes on,
+/// or none where further ones are missing at the end. Where memory was refused, [`Halt::Memory`] comes.
 pub fn parse(alloc: Global, tokens: &[Token]) -> Result<Script, Halt<'_>>
     ensures read { IfOk result (λ s. Reads script_form tokens.now s []) }
     ensures stop { IfErr result (λ h. Halts script_form tokens.now h) }
