@@ -1,13 +1,11 @@
 -- Two expressions have two spellings, and none begins another's.
-use Rattle.std.proofs.Common.{◌≡◌, ℤ, List, [], ◌∷◌, ◌++◌, refl, sym, ap, ◌∙◌, true}
+use Rattle.std.proofs.Common.{◌≡◌, ℤ, ◌∷◌, ◌++◌, refl, sym, ap, ◌∙◌, true}
 use Rattle.dyn_value.specs.declared.operator.BinOp.{BinOp}
 use Rattle.dyn_value.specs.declared.operator.BinOp.TheVariants as op
 use Rattle.script_front.specs.declared.token.Symbol.{Symbol}
 use Rattle.script_front.specs.declared.token.Symbol.TheVariants as mark
-use Rattle.script_front.specs.declared.token.Token.{Token}
-use Rattle.script_front.specs.declared.token.Token.TheVariants.{Name, Int, Mark}
+use Rattle.script_front.specs.declared.token.Token.TheVariants.{Int, Mark}
 use Rattle.script_front.specs.declared.tree.Expr.{Expr}
-use Rattle.script_front.specs.Forms.{Tokens, Form, tok}
 use Rattle.script_front.specs.Grammar.{name_form, operator_form, expr_form}
 use Rattle.script_front.specs.Spelling.{spell_expr}
 use Rattle.script_front.specs.Words.{operator_symbol}
@@ -71,6 +69,7 @@ lawful_name = record {
   ends = λ a x m. m;
 }
 
+-- a number
 int_unique : (n : ℤ) → UniqueAt expr_form (int_expr n)
 int_unique n b x y m w e =
     let begins : Int n ∷ x ≡ spell_expr b ++ y = ap (λ z. z ++ x) (sym (int-spelling n)) ∙ e in
@@ -78,14 +77,16 @@ int_unique n b x y m w e =
     let rest : Int n ∷ x ≡ Int n ∷ y = begins ∙ ap (λ z. spell_expr z ++ y) same ∙ ap (λ z. z ++ y) (int-spelling n) in
     (sym same, cc)
 
-binary_unique : (o : BinOp) (l r : Expr) → WrittenBinary o l r → UniqueAt expr_form l → UniqueAt expr_form r → UniqueAt expr_form (binary_of (l, (o, (r, tt))))
+-- an operation, if its operands are
+binary_unique : (o : BinOp) (l r : Expr) → WrittenBinary o l r → UniqueAt expr_form l → UniqueAt expr_form r →
+    UniqueAt expr_form (binary_of (l, (o, (r, tt))))
 binary_unique o l r w left right b x y m n e =
     let whole = seq_unique expr_form (λ _. operation_form) l (o, (r, tt)) left
-          (seq_unique operator_form (λ _. right_form) o (r, tt) (operator_unique o)
-            (seq_unique expr_form (λ _. close_form) r tt right (tok_unique (Mark mark.CloseParenthesis)))) in
+    (seq_unique operator_form (λ _. right_form) o (r, tt) (operator_unique o)
+    (seq_unique expr_form (λ _. close_form) r tt right (tok_unique (Mark mark.CloseParenthesis)))) in
     let h : binary_form.Tree = (l, (o, (r, tt))) in
     unique_by expr_form binary_form (Mark mark.OpenParenthesis ∷ (binary_form.tokens h ++ x)) x binary_of h
-      (binary_0 (binary_form.tokens h ++ x)) (w.left, (w.operator, (w.right, tt))) whole b y n e
+    (binary_0 (binary_form.tokens h ++ x)) (w.left, (w.operator, (w.right, tt))) whole b y n e
 
 expr_unique : (e : Expr) → is_written_expr e ≡ true → UniqueAt expr_form e
 expr_unique = built_cases (UniqueAt expr_form) (record { int = int_unique; binary = binary_unique })

@@ -1,5 +1,5 @@
 -- What the two answers of the parser say of scripts.
-use Rattle.std.proofs.Common.{◌≡◌, true, [], ◌++◌, refl, sym, ◌∙◌, append-nil}
+use Rattle.std.proofs.Common.{◌≡◌, true, [], refl, sym, ◌∙◌, append-nil}
 use Rattle.script_front.specs.declared.tree.Script.{Script}
 use Rattle.script_front.specs.Forms.{Tokens, Reads, Stops}
 use Rattle.script_front.specs.Grammar.{script_form}
@@ -16,6 +16,7 @@ pub read_is_written : (ts : Tokens) (s : Script) → Reads script_form ts s [] �
 read_is_written ts s reads = reads.may.0
 
 -- where the parser stops, no script that can be written is spelled by the tokens
-pub stopped_spells_none : (ts rest : Tokens) → Stops script_form ts rest → (s : Script) → is_written s ≡ true → ts ≡ spell s → ⊥
+pub stopped_spells_none : (ts rest : Tokens) → Stops script_form ts rest →
+    (s : Script) → is_written s ≡ true → ts ≡ spell s → ⊥
 stopped_spells_none ts rest stops s w e =
     stops.stuck rest (goes_same rest) s [] (w, refl) (sym stops.split ∙ e ∙ sym (append-nil (spell s)))

@@ -1,17 +1,16 @@
 -- Which form stands where the reading of an expression is.
-use Rattle.std.proofs.Common.{◌≡◌, ℕ, ℤ, true, List, [], ◌∷◌, ◌++◌, refl, sym, ap, ◌∙◌, subst}
-use Rattle.dyn_value.specs.declared.operator.BinOp.{BinOp}
+use Rattle.std.proofs.Common.{◌≡◌, ℤ, true, [], ◌∷◌, ◌++◌, refl, sym, ap, subst}
 use Rattle.script_front.specs.declared.token.Symbol.TheVariants as mark
 use Rattle.script_front.specs.declared.token.Token.{Token}
-use Rattle.script_front.specs.declared.token.Token.TheVariants.{Name, Int, Word, Mark}
+use Rattle.script_front.specs.declared.token.Token.TheVariants.{Int, Mark}
 use Rattle.script_front.specs.declared.tree.Expr.{Expr}
-use Rattle.script_front.specs.Forms.{Tokens, Form, AllPlain, GoesOnAs, Reads, Stops, tok, nothing, seq}
+use Rattle.script_front.specs.Forms.{Tokens, Form, Reads, tok, seq}
 use Rattle.script_front.specs.Grammar.{operator_form, expr_form}
 use Rattle.script_front.specs.Spelling.{spell_expr}
 use Rattle.script_front.specs.Words.{operator_symbol}
 use Rattle.script_front.specs.Written.{is_written_expr}
-use Rattle.script_front.proofs.Items.{At, after_first, branch}
-use Rattle.script_front.proofs.Trees.{int_expr, binary_expr, int-spelling, binary-spelling, int_is_written, binary_is_written, WrittenBinary, BuiltCases, built_cases}
+use Rattle.script_front.proofs.Items.{At, after_first}
+use Rattle.script_front.proofs.Trees.{int_expr, binary_expr, int-spelling, binary-spelling, int_is_written, binary_is_written, WrittenBinary, built_cases}
 
 abbrev pub close_form : Form
 close_form = tok (Mark mark.CloseParenthesis)
@@ -54,7 +53,8 @@ view post = built_cases (λ e. View e post) (record {
 })
 
 -- the expression that begins with this token
-pub head_at : (t : Token) (us post : Tokens) (e : Expr) → is_written_expr e ≡ true → t ∷ us ≡ spell_expr e ++ post → HeadAt t e
+pub head_at : (t : Token) (us post : Tokens) (e : Expr) → is_written_expr e ≡ true →
+    t ∷ us ≡ spell_expr e ++ post → HeadAt t e
 head_at t us post e w is =
     let v = view post e w in
     let same : v.first ≡ t = let k = v.tokens in cc in
@@ -73,6 +73,5 @@ binary_0 r = after_first expr_form binary_form (Mark mark.OpenParenthesis) r bin
     (λ b post m. binary-spelling b.1.0 b.0 b.1.1.0)
     (λ b post m. binary_is_written b.1.0 b.0 b.1.1.0 (binary_may b post m))
     (λ us a post m e.
-      let h = head_at (Mark mark.OpenParenthesis) us post a m e in
-      (h.0, (h.1.0, (h.1.1.left, (h.1.1.operator, (h.1.1.right, tt))))))
-
+    let h = head_at (Mark mark.OpenParenthesis) us post a m e in
+    (h.0, (h.1.0, (h.1.1.left, (h.1.1.operator, (h.1.1.right, tt))))))

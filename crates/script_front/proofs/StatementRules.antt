@@ -1,13 +1,12 @@
 -- Which form stands where the reading of a statement, a block, a task or a script is.
-use Rattle.std.proofs.Common.{◌≡◌, ◌≢◌, ℕ, suc, ◌≤◌, arith, ◌&&◌, true, List, [], ◌∷◌, ◌++◌, refl, sym, ap, ◌∙◌, subst, append_assoc, append-nil}
+use Rattle.std.proofs.Common.{◌≡◌, ◌≢◌, ℕ, suc, ◌≤◌, arith, true, List, [], ◌∷◌, ◌++◌, refl, ◌∙◌, subst, append_assoc}
 use Rattle.std.specs.Prelude.{nat_le, length}
 use Rattle.std.specs.List.{flat_map, list_all}
 use Rattle.std.proofs.lemmas.Bool.{and_from, and_parts, leb-true}
 use Rattle.script_front.specs.declared.token.Keyword.TheVariants as word
 use Rattle.script_front.specs.declared.token.Symbol.TheVariants as mark
 use Rattle.script_front.specs.declared.token.Token.{Token}
-use Rattle.script_front.specs.declared.token.Token.TheVariants.{Name, Int, Word, Mark}
-use Rattle.script_front.specs.declared.tree.Expr.{Expr}
+use Rattle.script_front.specs.declared.token.Token.TheVariants.{Word, Mark}
 use Rattle.script_front.specs.declared.tree.Stmt.{Stmt}
 use Rattle.script_front.specs.declared.tree.Stmt.TheVariants as stmt
 use Rattle.script_front.specs.declared.tree.Block.{Block}
@@ -15,7 +14,7 @@ use Rattle.script_front.specs.declared.tree.Task.{Task}
 use Rattle.script_front.specs.declared.tree.Script.{Script}
 use Rattle.script_front.specs.Forms.{Tokens, Form, GoesOnAs, Reads, tok, nothing, seq}
 use Rattle.script_front.specs.Grammar.{BeginsNot, name_form, expr_form, stmt_form, stmts_form, block_form, task_form, script_form}
-use Rattle.script_front.specs.Spelling.{spell, spell_task, spell_stmt, spell_expr}
+use Rattle.script_front.specs.Spelling.{spell_task, spell_stmt}
 use Rattle.script_front.specs.Written.{is_written, is_written_expr, is_written_stmt, is_written_task}
 use Rattle.script_front.proofs.Fronts.{first_is}
 use Rattle.script_front.proofs.Items.{At, after_first, branch}
@@ -33,7 +32,8 @@ StmtAt (Word word.Print) s = (b : print_form.Tree) × ((s ≡ stmt.Print b.0) ×
 StmtAt _ s = ⊥
 
 -- the statement that begins with this token
-pub stmt_at : (t : Token) (us post : Tokens) (s : Stmt) → is_written_stmt s ≡ true → t ∷ us ≡ spell_stmt s ++ post → StmtAt t s
+pub stmt_at : (t : Token) (us post : Tokens) (s : Stmt) → is_written_stmt s ≡ true →
+    t ∷ us ≡ spell_stmt s ++ post → StmtAt t s
 stmt_at t us post (stmt.Print value) w is =
     let same : Word word.Print ≡ t = cc in
     subst (λ z. StmtAt z (stmt.Print value)) same ((value, tt), (refl, w))
@@ -56,7 +56,9 @@ row_0 r none = branch stmts_form more_stmts_form r (λ p. p.0 ∷ p.1)
     (λ b post m. and_from (is_written_stmt b.0) (list_all is_written_stmt b.1) m.0 m.1)
     (λ us go a post m e. only us go post a m e)
   where
-    only : (us : Tokens) → GoesOnAs r us → (post : Tokens) (a : List Stmt) → list_all is_written_stmt a ≡ true → us ≡ stmts_form.tokens a ++ post → (b : more_stmts_form.Tree) × ((a ≡ b.0 ∷ b.1) × more_stmts_form.May b post)
+    only : (us : Tokens) → GoesOnAs r us → (post : Tokens) (a : List Stmt) → list_all is_written_stmt a ≡ true →
+        us ≡ stmts_form.tokens a ++ post →
+        (b : more_stmts_form.Tree) × ((a ≡ b.0 ∷ b.1) × more_stmts_form.May b post)
     only us go post [] m e = let f = first_is r us post (Mark mark.CloseBrace) go e in absurd (none f.0 f.1)
     only us go post (s ∷ ss) m e = ((s, ss), (refl, and_parts (is_written_stmt s) (list_all is_written_stmt ss) m))
 
@@ -120,7 +122,10 @@ script_0 r more = branch script_form only_task_form r only_task
     two : (n : ℕ) → nat_le (suc (suc n)) 1 ≡ true → ⊥
     two n e = let few : suc (suc n) ≤ 1 = leb-true (suc (suc n)) 1 e in omega arith
 
-    only : (us : Tokens) → GoesOnAs r us → (post : Tokens) (a : List Task) → (is_written (record { tasks = a }) ≡ true) × (post ≡ []) → us ≡ flat_map spell_task a ++ post → (b : only_task_form.Tree) × ((◌≡◌ {A = Script} (record { tasks = a }) (only_task b)) × only_task_form.May b post)
+    only : (us : Tokens) → GoesOnAs r us → (post : Tokens) (a : List Task) →
+        (is_written (record { tasks = a }) ≡ true) × (post ≡ []) → us ≡ flat_map spell_task a ++ post →
+        (b : only_task_form.Tree) × ((◌≡◌ {A = Script} (record { tasks = a }) (only_task b)) × only_task_form.May b post)
     only us go post [] m e = absurd (no_end r us more go (e ∙ m.1))
     only us go post (t ∷ []) m e = ((t, tt), (refl, ((and_parts (is_written_task t) true m.0).0, m.1)))
-    only us go post (t ∷ (u ∷ ts)) m e = absurd (two (length ts) (and_parts (nat_le (length (t ∷ u ∷ ts)) 1) (list_all is_written_task (t ∷ u ∷ ts)) m.0).0)
+    only us go post (t ∷ (u ∷ ts)) m e =
+        absurd (two (length ts) (and_parts (nat_le (length (t ∷ u ∷ ts)) 1) (list_all is_written_task (t ∷ u ∷ ts)) m.0).0)

@@ -9,5 +9,4 @@ ghost use Rattle.script_front.specs.Written.{is_written};
 #[tactic(auto, using(crate::proofs::StatementLaws::script_unique))]
 pub fn trees_have_distinct_spellings()
     ensures { (s t : Script) → is_written s ≡ true → is_written t ≡ true → spell s ≡ spell t → s ≡ t }
-{
-}
+{}

@@ -1,13 +1,9 @@
-ghost use Rattle.std.specs.Prelude.{◌≡◌, ◌≢◌, true, [], ◌∷◌, ◌<◌, length, IfOk, IfErr, MatchOption};
-ghost use Rattle.dyn_value.specs.declared.operator.BinOp.{BinOp};
+ghost use Rattle.std.specs.Prelude.{◌≡◌, true, [], ◌∷◌, ◌<◌, length, IfOk, IfErr, MatchOption};
 ghost use Rattle.script_front.specs.Forms.{Reads, tok};
-ghost use Rattle.script_front.specs.Grammar.{BeginsNot, name_form, operator_form, expr_form, stmt_form, stmts_form, block_form, task_form, script_form};
+ghost use Rattle.script_front.specs.Grammar.{BeginsNot, HasNoOperator, name_form, operator_form, expr_form, stmt_form, stmts_form, block_form, task_form, script_form};
 ghost use Rattle.script_front.specs.Halts.{Halts};
 ghost use Rattle.script_front.specs.Words.{operator_symbol};
 ghost use Rattle.script_front.specs.Written.{is_written_operator};
-ghost use Rattle.script_front.specs.declared.token.Token.TheVariants.{Word, Mark};
-ghost use Rattle.script_front.specs.declared.token.Keyword.TheVariants.{Print};
-ghost use Rattle.script_front.specs.declared.token.Symbol.TheVariants.{OpenParenthesis};
 
 use crate::halt::Halt;
 use crate::token::{Keyword, Symbol, Token};
@@ -18,7 +14,8 @@ use std::alloc::{AllocError, Global};
 
 /// The tokens after this symbol, if they begin with it.
 fn past(tokens: &[Token], symbol: Symbol) -> Option<&[Token]>
-    ensures { MatchOption result (BeginsNot (Mark symbol) tokens.now) (λ rest. tokens.now ≡ Mark symbol ∷ rest.now) }
+    ensures { MatchOption result (BeginsNot (Token.Mark symbol) tokens.now)
+        (λ rest. tokens.now ≡ Token.Mark symbol ∷ rest.now) }
 {
     match tokens {
         [Token::Mark(first), rest @ ..] if *first == symbol => Some(rest),
@@ -29,8 +26,8 @@ fn past(tokens: &[Token], symbol: Symbol) -> Option<&[Token]>
 /// The tokens after this symbol.
 #[tactic(auto, using(crate::proofs::Fronts::no_symbol))]
 fn after(tokens: &[Token], symbol: Symbol) -> Result<&[Token], Halt<'_>>
-    ensures read { IfOk result (λ rest. Reads (tok (Mark symbol)) tokens.now tt rest.now) }
-    ensures stop { IfErr result (λ h. Halts (tok (Mark symbol)) tokens.now h) }
+    ensures read { IfOk result (λ rest. Reads (tok (Token.Mark symbol)) tokens.now tt rest.now) }
+    ensures stop { IfErr result (λ h. Halts (tok (Token.Mark symbol)) tokens.now h) }
     ensures shorter { IfOk result (λ rest. length rest.now < length tokens.now) }
 {
     past(tokens, symbol).ok_or(Halt::Stop(tokens))
@@ -39,9 +36,8 @@ fn after(tokens: &[Token], symbol: Symbol) -> Result<&[Token], Halt<'_>>
 /// The tokens after this word.
 #[tactic(auto, using(crate::proofs::Fronts::no_word))]
 fn after_word(tokens: &[Token], word: Keyword) -> Result<&[Token], Halt<'_>>
-    ensures read { IfOk result (λ rest. Reads (tok (Word word)) tokens.now tt rest.now) }
-    ensures stop { IfErr result (λ h. Halts (tok (Word word)) tokens.now h) }
-    ensures shorter { IfOk result (λ rest. length rest.now < length tokens.now) }
+    ensures read { IfOk result (λ rest. Reads (tok (Token.Word word)) tokens.now tt rest.now) }
+    ensures stop { IfErr result (λ h. Halts (tok (Token.Word word)) tokens.now h) }
 {
     match tokens {
         [Token::Word(first), rest @ ..] if *first == word => Ok(rest),
@@ -63,7 +59,8 @@ fn name_at(tokens: &[Token]) -> Result<(DynText, &[Token]), Halt<'_>>
 
 /// The operator between two operands that has this symbol.
 fn operator_of(symbol: Symbol) -> Option<BinOp>
-    ensures { MatchOption result ((op : BinOp) → is_written_operator op ≡ true → symbol ≢ operator_symbol op) (λ op. (is_written_operator op ≡ true) × (symbol ≡ operator_symbol op)) }
+    ensures { MatchOption result (HasNoOperator symbol)
+        (λ op. (is_written_operator op ≡ true) × (symbol ≡ operator_symbol op)) }
 {
     match symbol {
         Symbol::Plus => Some(BinOp::Add),
@@ -109,8 +106,8 @@ fn expr_at(alloc: Global, tokens: &[Token]) -> Result<(Expr, &[Token]), Halt<'_>
 /// The expression whose opening parenthesis was taken.
 #[cycle(expressions)]
 fn binary_at(alloc: Global, tokens: &[Token]) -> Result<(Expr, &[Token]), Halt<'_>>
-    ensures read { IfOk result (λ f. Reads expr_form (Mark OpenParenthesis ∷ tokens.now) f.0 f.1.now) }
-    ensures stop { IfErr result (λ h. Halts expr_form (Mark OpenParenthesis ∷ tokens.now) h) }
+    ensures read { IfOk result (λ f. Reads expr_form (Token.Mark Symbol.OpenParenthesis ∷ tokens.now) f.0 f.1.now) }
+    ensures stop { IfErr result (λ h. Halts expr_form (Token.Mark Symbol.OpenParenthesis ∷ tokens.now) h) }
     ensures shorter { IfOk result (λ f. length f.1.now < length tokens.now) }
 {
     let (left, rest) = expr_at(alloc, tokens)?;
@@ -138,8 +135,8 @@ fn stmt_at(alloc: Global, tokens: &[Token]) -> Result<(Stmt, &[Token]), Halt<'_>
 
 /// The statement whose word `print` was taken.
 fn print_at(alloc: Global, tokens: &[Token]) -> Result<(Stmt, &[Token]), Halt<'_>>
-    ensures read { IfOk result (λ f. Reads stmt_form (Word Print ∷ tokens.now) f.0 f.1.now) }
-    ensures stop { IfErr result (λ h. Halts stmt_form (Word Print ∷ tokens.now) h) }
+    ensures read { IfOk result (λ f. Reads stmt_form (Token.Word Keyword.Print ∷ tokens.now) f.0 f.1.now) }
+    ensures stop { IfErr result (λ h. Halts stmt_form (Token.Word Keyword.Print ∷ tokens.now) h) }
     ensures shorter { IfOk result (λ f. length f.1.now < length tokens.now) }
 {
     let (value, rest) = expr_at(alloc, tokens)?;
@@ -187,8 +184,8 @@ fn task_at(alloc: Global, tokens: &[Token]) -> Result<(Task, &[Token]), Halt<'_>
 
 /// The script that these tokens spell: none or one task, and no token after it.
 ///
-/// Where they spell none, it stops at the first token with which no script goes on, or at the end where
-/// tokens are missing.
+/// Where they spell none, [`Halt::Stop`] hands back those from the first one on with which no script goes on,
+/// or none where further ones are missing at the end. Where memory was refused, [`Halt::Memory`] comes.
 pub fn parse(alloc: Global, tokens: &[Token]) -> Result<Script, Halt<'_>>
     ensures read { IfOk result (λ s. Reads script_form tokens.now s []) }
     ensures stop { IfErr result (λ h. Halts script_form tokens.now h) }
@@ -203,4 +200,76 @@ pub fn parse(alloc: Global, tokens: &[Token]) -> Result<Script, Halt<'_>>
     }
     tasks.push(task)?;
     Ok(Script { tasks })
+}
+
+#[cfg(test)]
+mod tests {
+    use super::*;
+    use std::test::Fail;
+
+    // `t` is `task`, `p` is `print`, a digit a number, a sign itself, and any other letter the name `a`.
+    fn token_of(alloc: Global, letter: char) -> Result<Token, Fail> {
+        Ok(match letter {
+            't' => Token::Word(Keyword::Task),
+            'p' => Token::Word(Keyword::Print),
+            '{' => Token::Mark(Symbol::OpenBrace),
+            '}' => Token::Mark(Symbol::CloseBrace),
+            '(' => Token::Mark(Symbol::OpenParenthesis),
+            ')' => Token::Mark(Symbol::CloseParenthesis),
+            ';' => Token::Mark(Symbol::Semicolon),
+            '+' => Token::Mark(Symbol::Plus),
+            '-' => Token::Mark(Symbol::Minus),
+            '*' => Token::Mark(Symbol::Star),
+            '/' => Token::Mark(Symbol::Slash),
+            '1' => Token::Int(1),
+            '2' => Token::Int(2),
+            _ => Token::Name(DynText::from_str(alloc, "a")?.ok_or("the name is too long")?),
+        })
+    }
+
+    // What is read of these tokens, or how many are left where it stops.
+    fn outcome_of(alloc: Global, letters: &str) -> Result<String, Fail> {
+        let mut tokens = Vec::new(alloc);
+        for letter in letters.chars() {
+            tokens.push(token_of(alloc, letter)?)?;
+        }
+        Ok(match parse(alloc, tokens.as_slice()) {
+            Ok(script) => format!(in alloc; "{script:?}")?,
+            Err(Halt::Stop(rest)) => format!(in alloc; "{} left", rest.len())?,
+            Err(Halt::Memory) => String::from_str(alloc, "out of memory")?,
+        })
+    }
+
+    #[test]
+    fn reads_a_script_or_stops(rt: HostRuntime) -> Result<(), Fail> {
+        let cases = [
+            ("", "Script { tasks: Items { items: [] } }"),
+            (
+                "ta{}",
+                "Script { tasks: Items { items: [Task { name: DynText { text: \"a\" }, \
+                 body: Block(Items { items: [] }) }] } }",
+            ),
+            (
+                "ta{p1;p(2-1);}",
+                "Script { tasks: Items { items: [Task { name: DynText { text: \"a\" }, \
+                 body: Block(Items { items: [Print(Expr { head: Int(1) }), \
+                 Print(Expr { head: Binary { op: Subtract, \
+                 left: Boxed { inner: Expr { head: Int(2) } }, \
+                 right: Boxed { inner: Expr { head: Int(1) } } } })] }) }] } }",
+            ),
+            ("p1;", "3 left"),
+            ("tt{}", "3 left"),
+            ("ta{a;}", "3 left"),
+            ("ta{p1+2;}", "4 left"),
+            ("ta{p(1/2);}", "5 left"),
+            ("ta{p((1*2)+1;}", "2 left"),
+            ("ta{p(1", "0 left"),
+            ("ta{}ta{}", "4 left"),
+        ];
+        for (letters, expected) in cases {
+            let outcome = outcome_of(rt.alloc(), letters)?;
+            assert_eq!(rt; outcome.as_str(), expected, "of {letters}");
+        }
+        Ok(())
+    }
 }

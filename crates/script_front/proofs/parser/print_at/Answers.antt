@@ -1,10 +1,13 @@
 use Rattle.script_front.specs.Grammar.{stmt_form}
 use Rattle.script_front.proofs.Exits.{exits}
-use Rattle.script_front.proofs.StatementSteps.{value_halts, semicolon_halts, print_read}
+use Rattle.script_front.proofs.StatementSteps.{value_halts, semicolon_halts}
 use Rattle.script_front.proofs.parser.print_at.Goals as goal
 
 pub returns-in_err-value-clause-stop : goal.returns-in_err-value-clause-stop
-returns-in_err-value-clause-stop c = exits stmt_form _ _ c.in_err-value.field-0.0 c.from_residual.ensures.1 (value_halts _ _ c.in_err-value.ensures.stop)
+returns-in_err-value-clause-stop c =
+    exits stmt_form _ _ c.in_err-value.field-0.0 c.from_residual.ensures.1 (value_halts _ _ c.in_err-value.ensures.stop)
 
 pub returns-in_err-rest-clause-stop : goal.returns-in_err-rest-clause-stop
-returns-in_err-rest-clause-stop c = exits stmt_form _ _ c.in_err-rest.field-0.0 c.from_residual-in_err-rest.ensures.1 (semicolon_halts _ _ c.in_ok-value.value _ c.in_ok-value.ensures.read c.in_err-rest.ensures.stop)
+returns-in_err-rest-clause-stop c =
+    exits stmt_form _ _ c.in_err-rest.field-0.0 c.from_residual-in_err-rest.ensures.1
+    (semicolon_halts _ c.in_ok-value.ensures.read c.in_err-rest.ensures.stop)

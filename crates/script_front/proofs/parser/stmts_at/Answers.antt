@@ -8,7 +8,11 @@ pub returns-in-Some-clause-read : goal.returns-in-Some-clause-read
 returns-in-Some-clause-read c = row_read _ _ _ c.row.stmts c.row.invariant c.in-Some.ensures
 
 pub returns-in_err-stmt-clause-stop : goal.returns-in_err-stmt-clause-stop
-returns-in_err-stmt-clause-stop c = exits stmts_form _ _ c.in_err-stmt.field-0.0 c.from_residual.ensures.1 (row_halts _ _ c.row.stmts _ c.row.invariant c.in_default.ensures c.in_err-stmt.ensures.stop)
+returns-in_err-stmt-clause-stop c =
+    exits stmts_form _ _ c.in_err-stmt.field-0.0 c.from_residual.ensures.1
+    (row_halts _ _ c.row.stmts _ c.row.invariant c.in_default.ensures c.in_err-stmt.ensures.stop)
 
 pub row-preserved : goal.row-preserved
-row-preserved c = subst (λ z. RowRead c.args.tokens.now z c.in_ok-stmt.more.now) (sym c.in_ok-push.ensures.ok) (row_more _ _ _ c.row.stmts c.in_ok-stmt.stmt c.row.invariant c.in_default.ensures c.in_ok-stmt.ensures.read)
+row-preserved c =
+    subst (λ z. RowRead c.args.tokens.now z c.in_ok-stmt.more.now) (sym c.in_ok-push.ensures.ok)
+    (row_more _ _ _ c.row.stmts c.in_ok-stmt.stmt c.row.invariant c.in_default.ensures c.in_ok-stmt.ensures.read)
