@@ -4,7 +4,7 @@ use Rattle.dyn_value.specs.declared.value.Value.{Value}
 use Rattle.dyn_value.specs.declared.fault.Fault.{Fault}
 use Rattle.dyn_value.specs.declared.outcome.Outcome.{Outcome}
 use Rattle.program_eval.specs.declared.world.Asked.{Asked}
-use Rattle.program_eval.specs.Runs.{Lines, Begins, Ending, Gives, Fails, State, Deed, gives, fails, prints, and_then, ending_of, answered}
+use Rattle.program_eval.specs.Runs.{Lines, Begins, Ending, Gives, Fails, State, Deed, gives, and_then, ending_of, answered}
 use Rattle.program_eval.specs.Walks.{plain_state, Comes}
 
 pub begins_then : {A : Type 0} (a b c : List A) → Begins a b → Begins b c → Begins a c
@@ -22,12 +22,6 @@ did_by d e s is left = ap (λ x. did x d.state d.asked d.lines) is ∙ ap (λ x.
 
 pub comes_given : {A : Type 0} (v : A) (turns : ℕ) (asked : List Asked) (lines : Lines) → Comes (gives v (plain_state turns)) (Gives v) turns asked asked lines lines
 comes_given v turns asked lines = record { ends = refl; leaves = refl; asks = sym (append-nil asked); prints = sym (append-nil lines) }
-
-pub comes_failed : {A : Type 0} (f : Fault) (turns : ℕ) (asked : List Asked) (lines : Lines) → Comes (fails {A = A} f (plain_state turns)) (Fails f) turns asked asked lines lines
-comes_failed f turns asked lines = record { ends = refl; leaves = refl; asks = sym (append-nil asked); prints = sym (append-nil lines) }
-
-pub comes_printed : (line : List ℕ) (turns : ℕ) (asked : List Asked) (lines : Lines) → Comes (prints line (plain_state turns)) (Gives tt) turns asked asked lines (lines ++ line ∷ [])
-comes_printed line turns asked lines = record { ends = refl; leaves = refl; asks = sym (append-nil asked); prints = refl }
 
 pub comes_answered : (site : ℕ) (operands : List Value) (o : Outcome) (turns : ℕ) (asked : List Asked) (lines : Lines)
     → Comes (answered site operands (plain_state turns) (Some (o, tt))) (ending_of o) turns asked (asked ++ record { site = site; operands = operands } ∷ []) lines lines

@@ -5,11 +5,12 @@ use Rattle.standard_binders.specs.declared.binder.Binder.{Binder}
 use Rattle.standard_binders.specs.declared.binder.Binder.TheVariants.{BinaryOperation}
 use Rattle.script_front.specs.declared.tree.Expr.{Expr}
 use Rattle.script_front.specs.declared.tree.Head.TheOpen.{Head-F}
+use Rattle.script_front.specs.declared.tree.Head.TheVariants.{Binary}
 use Rattle.script_front.specs.Sites.{expr_sites, head_sites, expr_layer_sites}
 use Rattle.program_eval.specs.Runs.{Evaluates, Objects, plain_objects, expr_part, head_part, layer_part}
 use Rattle.program_eval.specs.Walks.{HasSites}
 use Rattle.program_eval.proofs.SiteLists.{sites_first, sites_second, binder_first}
-use Rattle.program_eval.proofs.Trees.{int_expr, binary_expr, fold-Int, fold-Binary, by_cases}
+use Rattle.program_eval.proofs.Trees.{int_expr, binary_expr, binary_by_head, fold-Int, fold-Binary, by_cases}
 
 pub sites-int : (n : ℤ) → expr_sites (int_expr n) ≡ []
 sites-int n = fold-Int (List Binder) (List Binder) head_sites expr_layer_sites n
@@ -25,30 +26,30 @@ pub part-binary : {Store : Type 0} (objects : Objects Store) (op : BinOp) (l r :
 part-binary {Store} objects op l r = fold-Binary (Evaluates Store) (Evaluates Store) (head_part objects) (layer_part {Store = Store}) op l r
 
 -- the sites of an operator's operands
-pub length_sites : (e : Expr) (op : BinOp) (l r : Expr) → e ≡ binary_expr op l r → length (expr_sites e) ≡ length (expr_sites l) + 1 + length (expr_sites r)
+pub length_sites : (e : Expr) (op : BinOp) (l r : Expr) → e.head ≡ Binary op l r → length (expr_sites e) ≡ length (expr_sites l) + 1 + length (expr_sites r)
 length_sites e op l r is =
-    ap (λ e. length (expr_sites e)) is ∙ ap length (sites-binary op l r) ∙ omega (arith, length-append (expr_sites l) (BinaryOperation op ∷ expr_sites r))
+    ap (λ e. length (expr_sites e)) (binary_by_head e op l r is) ∙ ap length (sites-binary op l r) ∙ omega (arith, length-append (expr_sites l) (BinaryOperation op ∷ expr_sites r))
 
-both_sites : (binders : List Binder) (site : ℕ) (e : Expr) (op : BinOp) (l r : Expr) → e ≡ binary_expr op l r
+both_sites : (binders : List Binder) (site : ℕ) (e : Expr) (op : BinOp) (l r : Expr) → e.head ≡ Binary op l r
     → HasSites binders site (expr_sites e) → HasSites binders site (expr_sites l ++ BinaryOperation op ∷ expr_sites r)
-both_sites binders site e op l r is has = subst (λ s. HasSites binders site s) (ap expr_sites is ∙ sites-binary op l r) has
+both_sites binders site e op l r is has = subst (λ s. HasSites binders site s) (ap expr_sites (binary_by_head e op l r is) ∙ sites-binary op l r) has
 
-pub left_sites : (binders : List Binder) (site : ℕ) (e : Expr) (op : BinOp) (l r : Expr) → e ≡ binary_expr op l r
+pub left_sites : (binders : List Binder) (site : ℕ) (e : Expr) (op : BinOp) (l r : Expr) → e.head ≡ Binary op l r
     → HasSites binders site (expr_sites e) → HasSites binders site (expr_sites l)
 left_sites binders site e op l r is has = sites_first binders site (expr_sites l) (BinaryOperation op ∷ expr_sites r) (both_sites binders site e op l r is has)
 
-operator_sites : (binders : List Binder) (site at : ℕ) (e : Expr) (op : BinOp) (l r : Expr) → e ≡ binary_expr op l r → at ≡ site + length (expr_sites l)
+operator_sites : (binders : List Binder) (site at : ℕ) (e : Expr) (op : BinOp) (l r : Expr) → e.head ≡ Binary op l r → at ≡ site + length (expr_sites l)
     → HasSites binders site (expr_sites e) → HasSites binders at (BinaryOperation op ∷ expr_sites r)
 operator_sites binders site at e op l r is place has =
     subst (λ n. HasSites binders n (BinaryOperation op ∷ expr_sites r)) (sym place)
     (sites_second binders site (expr_sites l) (BinaryOperation op ∷ expr_sites r) (both_sites binders site e op l r is has))
 
-pub operator_binder : (binders : List Binder) (site at : ℕ) (e : Expr) (op : BinOp) (l r : Expr) → e ≡ binary_expr op l r → at ≡ site + length (expr_sites l)
+pub operator_binder : (binders : List Binder) (site at : ℕ) (e : Expr) (op : BinOp) (l r : Expr) → e.head ≡ Binary op l r → at ≡ site + length (expr_sites l)
     → HasSites binders site (expr_sites e) → slice_get binders at ≡ Some (BinaryOperation op)
 operator_binder binders site at e op l r is place has =
     binder_first binders at (BinaryOperation op) (expr_sites r) (operator_sites binders site at e op l r is place has)
 
-pub right_sites : (binders : List Binder) (site at : ℕ) (e : Expr) (op : BinOp) (l r : Expr) → e ≡ binary_expr op l r → at ≡ site + length (expr_sites l)
+pub right_sites : (binders : List Binder) (site at : ℕ) (e : Expr) (op : BinOp) (l r : Expr) → e.head ≡ Binary op l r → at ≡ site + length (expr_sites l)
     → HasSites binders site (expr_sites e) → HasSites binders (at + 1) (expr_sites r)
 right_sites binders site at e op l r is place has =
     sites_second binders at (BinaryOperation op ∷ []) (expr_sites r) (operator_sites binders site at e op l r is place has)

@@ -14,10 +14,7 @@ int_expr n = record { head = Int n }
 abbrev pub binary_expr : BinOp → Expr → Expr → Expr
 binary_expr op l r = record { head = Binary op l r }
 
--- an expression by its head
-pub int_by_head : (e : Expr) (n : ℤ) → e.head ≡ Int n → e ≡ int_expr n
-int_by_head e n is = ap (λ (h : Head). let x : Expr = record { head = h } in x) is
-
+-- an operator by its head
 pub binary_by_head : (e : Expr) (op : BinOp) (l r : Expr) → e.head ≡ Binary op l r → e ≡ binary_expr op l r
 binary_by_head e op l r is = ap (λ (h : Head). let x : Expr = record { head = h } in x) is
 

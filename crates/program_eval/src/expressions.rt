@@ -48,9 +48,9 @@ pub fn value_of<R: Wait, W: World>(
         Head::Int(number) => Ok((Value::Int(*number), site)),
         Head::Binary { left, right, .. } => {
             let inner = inner_levels(levels)?;
-            let (left, operator) = value_of(rt, alloc, left.get(), site, inner, world)?;
-            let (right, after) = value_of(rt, alloc, right.get(), operator + 1, inner, world)?;
-            match world.operate(rt, alloc, operator, &[left, right])? {
+            let (first, operator) = value_of(rt, alloc, left.get(), site, inner, world)?;
+            let (second, after) = value_of(rt, alloc, right.get(), operator + 1, inner, world)?;
+            match world.operate(rt, alloc, operator, &[first, second])? {
                 Outcome::Value(value) => Ok((value, after)),
                 Outcome::Fault(fault) => Err(Stop::Fault(fault)),
             }

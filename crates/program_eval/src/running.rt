@@ -15,8 +15,11 @@ use std::sync::Wait;
 /// The most levels that may be open at once.
 const MOST_LEVELS: u32 = 256;
 
-/// Runs a task of the program: its printed lines are added to `printed`, and its operations are asked of the
-/// world, which answers for this program.
+/// Runs the task of this number of the program: its printed lines are added to `printed`, and its operations
+/// are asked of the world, which answers for this program.
+///
+/// The answer is `Done`, or `Faulted` with the fault that ended the task: that of an operation, or `Depth` where
+/// a 257th level would open. What it printed and asked before stays.
 ///
 /// Where memory is refused, the world keeps what it answered so far, and `printed` begins with what it held.
 pub fn run_task<R: Wait, W: World>(
