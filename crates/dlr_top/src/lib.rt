@@ -17,6 +17,8 @@ mod sink;
 mod source;
 mod status;
 mod tasks;
+#[cfg(test)]
+mod tests;
 mod words;
 
 pub use clean_sink::CleanSink;

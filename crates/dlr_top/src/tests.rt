@@ -1,0 +1,213 @@
+//! The command over devices that move one to three bytes a call, and fail in mid-stream.
+use super::*;
+use dyn_value::DynText;
+use std::alloc::{AllocError, Global};
+use std::io;
+use std::io::{ErrorKind, Read, Write};
+use std::test::Fail;
+
+const USAGE: &str = "usage: dlr run [--serial] [--journal] [--stats] [--rules] [--turns N] [--objects N] | check | drill SEED\n";
+
+// No call of a device has this number.
+const NEVER: u64 = u64::MAX;
+
+// Gives one to three bytes a call, and fails at the call of this number.
+#[derive(Drop)]
+struct SlowSource {
+    clean: CleanSource,
+    calls: u64,
+    fails_at: u64,
+    faults: u64,
+}
+
+impl Source for SlowSource {
+    ghost use Rattle.std.specs.Prelude.{None};
+
+    ghost held = { λ _. None };
+
+    ghost faults = { λ s. s.faults };
+
+    fn read(&mut self, into: &mut [u8]) -> Result<usize, Failed> {
+        let call = self.calls;
+        self.calls = call.saturating_add(1);
+        if call == self.fails_at {
+            self.faults = self.faults.saturating_add(1);
+            return Err(Failed);
+        }
+        let most = into.len().min((call % 3) as usize + 1);
+        self.clean.read(&mut into[..most])
+    }
+}
+
+// Takes one to three bytes a call, and fails at the call of this number.
+#[derive(Drop)]
+struct SlowSink {
+    clean: CleanSink,
+    calls: u64,
+    fails_at: u64,
+    faults: u64,
+}
+
+impl Sink for SlowSink {
+    ghost use Rattle.std.specs.Prelude.{None};
+    ghost use Rattle.dlr_top.specs.Clean.{reserved_room};
+
+    ghost has = { λ _. None };
+
+    ghost faults = { λ s. s.faults };
+
+    ghost room = { λ s. reserved_room s.clean };
+
+    fn reserve(&mut self, bytes: usize) -> Result<(), AllocError> {
+        self.clean.reserve(bytes)
+    }
+
+    fn write(&mut self, piece: &[u8]) -> Result<usize, Failed> {
+        let call = self.calls;
+        self.calls = call.saturating_add(1);
+        if call == self.fails_at {
+            self.faults = self.faults.saturating_add(1);
+            return Err(Failed);
+        }
+        let most = piece.len().min((call % 3) as usize + 1);
+        self.clean.write(&piece[..most])
+    }
+}
+
+fn slow_source(alloc: Global, text: &str, fails_at: u64) -> Result<SlowSource, AllocError> {
+    Ok(SlowSource {
+        clean: CleanSource::new(Vec::from_slice(alloc, text.as_bytes())?),
+        calls: 0,
+        fails_at,
+        faults: 0,
+    })
+}
+
+fn slow_sink(alloc: Global, fails_at: u64) -> SlowSink {
+    SlowSink {
+        clean: CleanSink::new(alloc),
+        calls: 0,
+        fails_at,
+        faults: 0,
+    }
+}
+
+fn words(alloc: Global, texts: &[&str]) -> Result<Vec<DynText>, AllocError> {
+    let mut words = Vec::new(alloc);
+    for text in texts {
+        if let Some(word) = DynText::from_str(alloc, text)? {
+            words.push(word)?;
+        }
+    }
+    Ok(words)
+}
+
+#[test]
+fn words_that_are_no_command_give_the_usage_line(rt: HostRuntime) -> Result<(), Fail> {
+    let alloc = rt.alloc();
+    let cases: [(&[&str], u64, &str); 6] = [
+        (&[], NEVER, USAGE),
+        (&["ran"], NEVER, USAGE),
+        (&["run", "run"], NEVER, USAGE),
+        (&[""], NEVER, USAGE),
+        // The writes take 1, 2 and 3 bytes before the fourth fails.
+        (&["check"], 3, "usage:"),
+        (&["Run"], 0, ""),
+    ];
+    for (texts, fails_at, want) in cases {
+        let words = words(alloc, texts)?;
+        let mut source = slow_source(alloc, "task a { print 1; }", 0)?;
+        let mut sink = slow_sink(alloc, fails_at);
+        let outcome = top(&rt, alloc, words.as_slice(), &mut source, &mut sink, &OpenGate);
+        assert_eq!(rt; outcome.status, WORDS_REFUSED);
+        assert!(rt; outcome.report.is_none());
+        assert_eq!(rt; sink.clean.bytes(), want.as_bytes());
+        assert_eq!(rt; source.calls, 0);
+    }
+    Ok(())
+}
+
+#[test]
+fn a_source_that_fails_leaves_the_sink_as_it_was(rt: HostRuntime) -> Result<(), Fail> {
+    let alloc = rt.alloc();
+    for fails_at in [0, 1, 4, 9] {
+        let words = words(alloc, &["run"])?;
+        let mut source = slow_source(alloc, "task a { print (1 + 2); }", fails_at)?;
+        let mut sink = slow_sink(alloc, NEVER);
+        let outcome = top(&rt, alloc, words.as_slice(), &mut source, &mut sink, &OpenGate);
+        assert_eq!(rt; outcome.status, SOURCE_FAILED, "at {fails_at}");
+        assert!(rt; outcome.report.is_none());
+        assert_eq!(rt; sink.clean.bytes(), b"".as_slice());
+        assert_eq!(rt; sink.calls, 0);
+    }
+    Ok(())
+}
+
+// A reader and a writer that move two bytes, then fail, then move none.
+#[derive(Drop)]
+struct Unsteady {
+    calls: u64,
+}
+
+impl Unsteady {
+    ghost use Rattle.std.specs.Prelude.{◌≤◌, IfOk};
+
+    fn turn(&mut self, most: usize) -> io::Result<usize>
+        ensures { IfOk result (λ n. n ≤ most) }
+    {
+        let call = self.calls;
+        self.calls = call.saturating_add(1);
+        match call {
+            0 => Ok(most.min(2)),
+            1 => Err(io::Error::from(ErrorKind::BrokenPipe)),
+            _ => Ok(0),
+        }
+    }
+}
+
+impl Read for Unsteady {
+    fn read(&mut self, into: &mut [u8]) -> io::Result<usize> {
+        self.turn(into.len())
+    }
+}
+
+impl Write for Unsteady {
+    fn write(&mut self, piece: &[u8]) -> io::Result<usize> {
+        self.turn(piece.len())
+    }
+
+    fn flush(&mut self) -> io::Result<()> {
+        Ok(())
+    }
+}
+
+#[test]
+fn an_error_of_a_reader_or_a_writer_is_a_failure(rt: HostRuntime) -> Result<(), Fail> {
+    let mut source = InputSource::new(Unsteady { calls: 0 });
+    let mut sink = OutputSink::new(Unsteady { calls: 0 });
+    sink.reserve(9)?;
+    let mut piece = [7; 3];
+    for (reads, writes) in [
+        (Ok(2), Ok(2)),
+        (Err(Failed), Err(Failed)),
+        // The reader is at its end. A writer that takes nothing has failed.
+        (Ok(0), Err(Failed)),
+    ] {
+        assert_eq!(rt; source.read(&mut piece), reads);
+        assert_eq!(rt; sink.write(&piece), writes);
+    }
+    Ok(())
+}
+
+#[test]
+fn a_reader_and_a_writer_serve_the_command(rt: HostRuntime) -> Result<(), Fail> {
+    let alloc = rt.alloc();
+    let mut written: Vec<u8> = Vec::new(alloc);
+    let words = words(alloc, &["drill"])?;
+    let mut source = InputSource::new(b"task a { }".as_slice());
+    let mut sink = OutputSink::new(&mut written);
+    let outcome = top(&rt, alloc, words.as_slice(), &mut source, &mut sink, &OpenGate);
+    assert_eq!(rt; outcome.status, WORDS_REFUSED);
+    assert_eq!(rt; written.as_slice(), USAGE.as_bytes());
+    Ok(())
+}
