@@ -11,6 +11,7 @@ mod intake;
 mod loading;
 mod output;
 mod output_sink;
+mod plain_world;
 mod rendering;
 mod report;
 mod sink;

@@ -1,8 +1,8 @@
 -- One more site is numbered.
-use Rattle.std.proofs.Common.{◌≡◌, ◌≢◌, ◌⊎◌, inl, inr, ℕ, zero, suc, ◌+◌, ◌<◌, ◌≤◌, max, Bool, true, false, ◌&&◌, ◌==◌, List, [], ◌∷◌, ◌++◌, length, map, Option, None, Some, refl, sym, ap, ◌∙◌, subst, arith, slice_get, length-append, get_or, take}
+use Rattle.std.proofs.Common.{◌≡◌, ◌≢◌, inl, inr, ℕ, ◌+◌, ◌<◌, ◌≤◌, max, Bool, true, false, ◌&&◌, ◌==◌, List, [], ◌∷◌, ◌++◌, length, map, Some, refl, sym, ap, ◌∙◌, subst, arith, slice_get, length-append, get_or, take}
 use Rattle.std.specs.Prelude.{nat_le}
 use Rattle.std.proofs.lemmas.List.{take_more, length-map}
-use Rattle.std.proofs.lemmas.Option.{slice_get_within, slice_get_past, slice_get-get_or, get_or_from_slice_get, slice_get-map}
+use Rattle.std.proofs.lemmas.Option.{slice_get_within, slice_get-get_or, slice_get-map}
 use Rattle.std.specs.Option.{option_map}
 use Rattle.std.proofs.lemmas.Bool.Decides.{nat_tests}
 use Rattle.standard_binders.specs.declared.binder.Binder.{Binder}
@@ -49,8 +49,8 @@ one_more_distinct : (bs : List Binder) (b : Binder) → ((k : ℕ) → slice_get
     → (i j : ℕ) (x : Binder) → slice_get (bs ++ b ∷ []) i ≡ Some x → slice_get (bs ++ b ∷ []) j ≡ Some x → i ≡ j
 one_more_distinct bs b none distinct i j x e f =
     elim (grown_got bs b x i e) [
-      inl g ↦ elim (grown_got bs b x j f) [ inl h ↦ distinct i j x g h | inr h ↦ absurd (none i (g ∙ ap Some (sym h.1))) ]
-    | inr g ↦ elim (grown_got bs b x j f) [ inl h ↦ absurd (none j (h ∙ ap Some (sym g.1))) | inr h ↦ g.0 ∙ sym h.0 ]
+      | inl g ↦ elim (grown_got bs b x j f) [ inl h ↦ distinct i j x g h | inr h ↦ absurd (none i (g ∙ ap Some (sym h.1))) ]
+      | inr g ↦ elim (grown_got bs b x j f) [ inl h ↦ absurd (none j (h ∙ ap Some (sym g.1))) | inr h ↦ g.0 ∙ sym h.0 ]
     ]
 
 -- the numbering goes on with the number of the next site's binder
@@ -86,8 +86,8 @@ numbered_at at_sites sites binders i d is h =
     let lengths : length sites ≡ length at_sites = sym (length-map sites (slice_get binders)) ∙ ap length is.each ∙ length-map at_sites Some in
     let within : i < length sites = omega arith in
     let left : slice_get (map (slice_get binders) sites) i ≡ Some (slice_get binders (get_or sites i 0)) =
-        slice_get-map (slice_get binders) sites i ∙ ap (option_map (slice_get binders)) (slice_get-get_or sites i 0 within) in
+    slice_get-map (slice_get binders) sites i ∙ ap (option_map (slice_get binders)) (slice_get-get_or sites i 0 within) in
     let right : slice_get (map Some at_sites) i ≡ Some (Some (get_or at_sites i d)) =
-        slice_get-map Some at_sites i ∙ ap (option_map Some) (slice_get-get_or at_sites i d h) in
+    slice_get-map Some at_sites i ∙ ap (option_map Some) (slice_get-get_or at_sites i d h) in
     let both = ap (λ z. slice_get z i) is.each in
     cc

@@ -1,6 +1,6 @@
 -- Bytes that are refused are no script.
-use Rattle.std.proofs.Common.{◌≡◌, ℕ, ◌<◌, ◌≤◌, List, [], ◌∷◌, ◌++◌, length, Bool, true, ◌&&◌, refl, sym, ap, ◌∙◌, subst, Result, arith, append-nil}
-use Rattle.std.specs.Prelude.{Err, IsUtf8, nat_le}
+use Rattle.std.proofs.Common.{◌≡◌, ℕ, ◌≤◌, List, length, Bool, true, ◌&&◌, sym, subst, Result, arith}
+use Rattle.std.specs.Prelude.{nat_le}
 use Rattle.std.specs.Result.{IsErrAnd, IsErrOf}
 use Rattle.std.specs.List.{list_all}
 use Rattle.std.specs.Str.{chars}
@@ -10,8 +10,6 @@ use Rattle.script_front.specs.declared.token.Token.{Token}
 use Rattle.script_front.specs.declared.tree.Script.{Script}
 use Rattle.script_front.specs.Lexemes.{AreTokens}
 use Rattle.script_front.specs.Script.{IsScript}
-use Rattle.script_front.specs.Shallow.{IsShallow}
-use Rattle.script_front.specs.Sites.{site_binders}
 use Rattle.script_front.specs.Spelling.{spell}
 use Rattle.script_front.specs.Written.{is_written, is_written_task}
 

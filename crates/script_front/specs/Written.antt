@@ -1,5 +1,5 @@
 -- The trees that scripts can write so far.
-use Rattle.std.specs.Prelude.{ℕ, Bool, true, false, ◌&&◌, List, length, nat_le}
+use Rattle.std.specs.Prelude.{Bool, true, false, ◌&&◌, length, nat_le}
 use Rattle.std.specs.List.{list_all}
 use Rattle.dyn_value.specs.declared.operator.BinOp.{BinOp}
 use Rattle.dyn_value.specs.declared.operator.BinOp.TheVariants.{Add, Subtract, Multiply}

@@ -42,6 +42,7 @@ const NOT_BUILT: ReadFault = ReadFault::Refused(ScriptRefused::NotBuilt);
 impl From<AllocError> for ReadFault {
     ghost use Rattle.std.specs.Prelude.{◌≡◌};
     ghost use Rattle.script_front.specs.declared.reading.ReadFault.TheVariants as read_fault;
+
     ghost from_gives = { λ _ e. e ≡ read_fault.Memory };
 
     fn from(_error: AllocError) -> ReadFault {

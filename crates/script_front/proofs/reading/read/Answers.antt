@@ -9,7 +9,7 @@ use Rattle.script_front.proofs.reading.read.Goals as goal
 pub returns-in_err-tokens-clause-refused : goal.returns-in_err-tokens-clause-refused
 returns-in_err-tokens-clause-refused c = λ at s is.
     no_tokens c.args.bytes.now c.as_slice.result.now s (c.as_slice.ensures.value ∙ c.in_ok-characters.ensures.characters)
-      (c.in_err-tokens.ensures.refused (ap Err (passed_on c.from_residual-in_err-tokens.result c.in_err-tokens.field-0.0 _ c.from_residual-in_err-tokens.ensures.1 at))) is
+    (c.in_err-tokens.ensures.refused (ap Err (passed_on c.from_residual-in_err-tokens.result c.in_err-tokens.field-0.0 _ c.from_residual-in_err-tokens.ensures.1 at))) is
 
 pub returns-then-not-is_shallow-clause-refused : goal.returns-then-not-is_shallow-clause-refused
 returns-then-not-is_shallow-clause-refused c = λ at s is.

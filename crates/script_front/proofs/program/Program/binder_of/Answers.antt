@@ -1,7 +1,6 @@
-use Rattle.std.proofs.Common.{◌≡◌, Some, subst, sym, ap, ◌∙◌, get_or, slice_get}
+use Rattle.std.proofs.Common.{Some, sym, ap, ◌∙◌, get_or, slice_get}
 use Rattle.std.proofs.lemmas.Option.{slice_get_within, slice_get-get_or, get_or_from_slice_get}
 use Rattle.dyn_value.specs.declared.operator.BinOp.TheVariants.{Add}
-use Rattle.standard_binders.specs.declared.binder.Binder.{Binder}
 use Rattle.standard_binders.specs.declared.binder.Binder.TheVariants.{BinaryOperation}
 use Rattle.script_front.proofs.Numbers.{numbered_at}
 use Rattle.script_front.specs.Programs.{script_of, binders_of}
