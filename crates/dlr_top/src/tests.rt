@@ -185,7 +185,6 @@ impl Write for Unsteady {
 fn an_error_of_a_reader_or_a_writer_is_a_failure(rt: HostRuntime) -> Result<(), Fail> {
     let mut source = InputSource::new(Unsteady { calls: 0 });
     let mut sink = OutputSink::new(Unsteady { calls: 0 });
-    sink.reserve(9)?;
     let mut piece = [7; 3];
     for (reads, writes) in [
         (Ok(2), Ok(2)),
@@ -194,6 +193,7 @@ fn an_error_of_a_reader_or_a_writer_is_a_failure(rt: HostRuntime) -> Result<(), 
         (Ok(0), Err(Failed)),
     ] {
         assert_eq!(rt; source.read(&mut piece), reads);
+        sink.reserve(piece.len())?;
         assert_eq!(rt; sink.write(&piece), writes);
     }
     Ok(())
