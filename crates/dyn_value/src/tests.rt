@@ -244,7 +244,7 @@ fn texts(rt: HostRuntime) -> Result<(), Fail> {
         Fault::NotIndexable(Kind::Nil),
         Fault::NotCallable(Kind::Int),
         Fault::WrongCount(2, 1),
-        Fault::NoParameter(text(alloc, "a\"b")?),
+        Fault::NoParameter(text(alloc, "a\"b")?.copy()?),
         Fault::NotCreatable(Kind::Text),
         Fault::MembersFull,
     ];
