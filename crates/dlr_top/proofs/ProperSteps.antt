@@ -1,5 +1,5 @@
 -- An operation on proper values gives a proper one.
-use Rattle.std.proofs.Common.{◌≡◌, ℕ, ◌<◌, ◌≤◌, ◌^◌, Bool, true, false, ◌&&◌, List, [], ◌∷◌, ◌++◌, length, Result, refl, sym, ap, ◌∙◌, arith}
+use Rattle.std.proofs.Common.{◌≡◌, ℕ, ◌<◌, ◌≤◌, ◌^◌, Bool, true, false, ◌&&◌, List, [], ◌∷◌, ◌++◌, length, Result, refl, sym, ap, ◌∙◌, arith, get_or}
 use Rattle.std.specs.Prelude.{Ok, Err, IfOk, if◌then◌else◌, ℤ, pos, negsuc, FitsSigned, encode_utf8_all, nat_le, nat_lt, ◌-ℤ◌, ◌*ℤ◌, ◌+ℤ◌, int_div, int_rem, not, ◌||◌}
 use Rattle.std.specs.Int.{w64}
 use Rattle.std.specs.Ordering.{int_eq, is_lt, is_le, is_gt, is_ge}
@@ -15,6 +15,10 @@ use Rattle.dyn_value.specs.declared.fault.Fault.{Fault}
 use Rattle.dyn_value.specs.declared.fault.Fault.TheVariants.{ZeroDivide}
 use Rattle.dyn_value.specs.Operations.{fits, whole, joined, on_numbers, on_ordered, on_truths, sum_of, quotient_of, remainder_of, binary_of}
 use Rattle.dyn_value.specs.Proper.{IsProper, IsText}
+use Rattle.standard_binders.specs.Binders.{operand_count_of}
+use Rattle.standard_binders.specs.declared.binder.Binder.{Binder}
+use Rattle.standard_binders.specs.declared.binder.Binder.TheVariants.{BinaryOperation}
+use Rattle.std.specs.List.{AllByRecursion}
 
 fits_signed : (z : ℤ) → fits z ≡ true → FitsSigned w64 z
 fits_signed (pos n) e = grind (arith, ints, nat_tests)
@@ -86,3 +90,15 @@ binary_proper op.GreaterThan l r p q = ordered_proper is_gt l r
 binary_proper op.GreaterThanOrEqual l r p q = ordered_proper is_ge l r
 binary_proper op.And l r p q = truths_proper (λ x y. x && y) l r
 binary_proper op.Or l r p q = truths_proper (λ x y. x || y) l r
+
+pub operands_are_two : (b : Binder) → operand_count_of b ≡ 2
+operands_are_two (BinaryOperation o) = refl
+
+pub first_proper : (xs : List Value) (d : Value) → AllByRecursion IsProper xs → length xs ≡ 2 → IsProper (get_or xs 0 d)
+first_proper [] d all two = absurd (omega arith)
+first_proper (x ∷ xs) d all two = all.0
+
+pub second_proper : (xs : List Value) (d : Value) → AllByRecursion IsProper xs → length xs ≡ 2 → IsProper (get_or xs 1 d)
+second_proper [] d all two = absurd (omega arith)
+second_proper (x ∷ []) d all two = absurd (omega arith)
+second_proper (x ∷ y ∷ xs) d all two = all.1.0

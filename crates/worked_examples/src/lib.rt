@@ -1,0 +1,5 @@
+//! Worked examples: whole scripts through the command, over a source and a sink in memory.
+#![tactic(auto)]
+
+#[cfg(test)]
+mod command_tests;
