@@ -1,5 +1,5 @@
 -- Texts that are written piece by piece.
-use Rattle.std.proofs.Common.{◌≡◌, ℕ, zero, suc, ◌+◌, ◌<◌, ◌≤◌, List, [], ◌∷◌, ◌++◌, length, take, get_or, refl, sym, ap, ◌∙◌, subst, arith, append_assoc, append-nil, add-one}
+use Rattle.std.proofs.Common.{◌≡◌, ℕ, zero, suc, ◌+◌, ◌<◌, ◌≤◌, List, [], ◌∷◌, ◌++◌, length, take, get_or, refl, sym, ap, ◌∙◌, arith, append_assoc, append-nil, add-one}
 use Rattle.std.specs.Prelude.{codes, encode_utf8_all}
 use Rattle.std.specs.List.{flat_map}
 use Rattle.std.proofs.lemmas.List.{take_more, take_all}
@@ -63,7 +63,7 @@ pub row_more : {A : Type 0} (f : A → List ℕ) (xs : List A) (i : ℕ) (d : A)
 row_more f xs i d out before after h e1 e2 =
     let x = get_or xs i d in
     let more : flat_map f (take (i + 1) xs) ≡ flat_map f (take i xs) ++ f x =
-        ap (flat_map f) (take_more xs i d h) ∙ flat_map-append f (take i xs) (x ∷ []) ∙ ap (λ z. flat_map f (take i xs) ++ z) (append-nil (f x)) in
+    ap (flat_map f) (take_more xs i d h) ∙ flat_map-append f (take i xs) (x ∷ []) ∙ ap (λ z. flat_map f (take i xs) ++ z) (append-nil (f x)) in
     e2 ∙ ap (λ z. z ++ encode_utf8_all (f x)) e1 ∙ append_assoc out (encode_utf8_all (flat_map f (take i xs))) (encode_utf8_all (f x))
     ∙ ap (λ z. out ++ z) (sym (encodes-append (flat_map f (take i xs)) (f x)) ∙ ap encode_utf8_all (sym more))
 

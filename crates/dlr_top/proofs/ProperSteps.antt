@@ -1,6 +1,6 @@
 -- An operation on proper values gives a proper one.
-use Rattle.std.proofs.Common.{◌≡◌, ℕ, ◌<◌, ◌≤◌, ◌^◌, Bool, true, false, ◌&&◌, List, [], ◌∷◌, ◌++◌, length, Result, refl, sym, ap, ◌∙◌, arith, get_or}
-use Rattle.std.specs.Prelude.{Ok, Err, IfOk, if◌then◌else◌, ℤ, pos, negsuc, FitsSigned, encode_utf8_all, nat_le, nat_lt, ◌-ℤ◌, ◌*ℤ◌, ◌+ℤ◌, int_div, int_rem, not, ◌||◌}
+use Rattle.std.proofs.Common.{◌≡◌, ℕ, Bool, true, false, ◌&&◌, List, [], ◌∷◌, ◌++◌, length, Result, refl, arith, get_or}
+use Rattle.std.specs.Prelude.{Err, IfOk, if◌then◌else◌, ℤ, pos, negsuc, FitsSigned, encode_utf8_all, nat_le, ◌-ℤ◌, ◌*ℤ◌, ◌+ℤ◌, int_div, int_rem, ◌||◌}
 use Rattle.std.specs.Int.{w64}
 use Rattle.std.specs.Ordering.{int_eq, is_lt, is_le, is_gt, is_ge}
 use Rattle.std.proofs.Math.Utf8.{scalars, scalar}
@@ -10,7 +10,7 @@ use Rattle.std.specs.declared.cmp.Ordering.{Ordering}
 use Rattle.dyn_value.specs.declared.operator.BinOp.{BinOp}
 use Rattle.dyn_value.specs.declared.operator.BinOp.TheVariants as op
 use Rattle.dyn_value.specs.declared.value.Value.{Value}
-use Rattle.dyn_value.specs.declared.value.Value.TheVariants.{Nil, Bool as Truth, Int, Text, Fun, Obj}
+use Rattle.dyn_value.specs.declared.value.Value.TheVariants.{Bool as Truth, Int, Text}
 use Rattle.dyn_value.specs.declared.fault.Fault.{Fault}
 use Rattle.dyn_value.specs.declared.fault.Fault.TheVariants.{ZeroDivide}
 use Rattle.dyn_value.specs.Operations.{fits, whole, joined, on_numbers, on_ordered, on_truths, sum_of, quotient_of, remainder_of, binary_of}

@@ -1,5 +1,5 @@
 -- Reports that grow by a task's end.
-use Rattle.std.proofs.Common.{◌≡◌, ℕ, ◌+◌, List, [], ◌∷◌, ◌++◌, length, Some, sym, ap, ◌∙◌, subst, arith, slice_get, length-append, inl, inr}
+use Rattle.std.proofs.Common.{◌≡◌, ℕ, ◌+◌, List, [], ◌∷◌, ◌++◌, length, Some, sym, ◌∙◌, subst, arith, slice_get, length-append, inl, inr}
 use Rattle.script_front.specs.declared.tree.Script.{Script}
 use Rattle.script_front.proofs.Lists.{grown_got}
 use Rattle.dlr_top.specs.declared.report.TaskEnd.{TaskEnd}
@@ -14,7 +14,7 @@ pub one_more_end : (script : Script) (count : ℕ) (ends : List TaskEnd) (end : 
 one_more_end script count ends end so_far last = record {
   count = omega (arith, length-append ends (end ∷ []), so_far.count);
   each = λ task e at. elim (grown_got ends end e task at) [
-      inl before ↦ so_far.each task e before
+    | inl before ↦ so_far.each task e before
     | inr here ↦ subst (λ z. Ends script task z) here.1 (subst (λ z. Ends script z end) (sym (here.0 ∙ so_far.count)) last)
-    ];
+  ];
 }

@@ -1,5 +1,5 @@
 -- When a report is lawful.
-use Rattle.std.specs.Prelude.{◌≡◌, ℕ, List, length, slice_get, Some}
+use Rattle.std.specs.Prelude.{◌≡◌, ℕ, length, slice_get, Some}
 use Rattle.program_eval.specs.declared.ended.Ended.{Ended}
 use Rattle.program_eval.specs.declared.ended.Ended.TheVariants.{Done, Faulted}
 use Rattle.program_eval.specs.Runs.{plain_objects, task_run}

@@ -20,7 +20,8 @@ use std::sync::Wait;
 use std::thread::Threads;
 
 /// What is written where the words are no command.
-const USAGE: &str = "usage: dlr run [--serial] [--journal] [--stats] [--rules] [--turns N] [--objects N] | check | drill SEED\n";
+const USAGE: &str =
+    "usage: dlr run [--serial] [--journal] [--stats] [--rules] [--turns N] [--objects N] | check | drill SEED\n";
 
 /// What is written where the script is refused.
 const REFUSAL: &str = "refused: NotBuilt\n";

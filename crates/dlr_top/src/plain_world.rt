@@ -57,11 +57,7 @@ ghost use Rattle.standard_binders.specs.Binders.{operand_count_of};
 ghost use Rattle.standard_binders.specs.Steps.{plain_step, IsProperOutcome};
 
 /// The outcome of an operation on as many proper operands as its binder has.
-fn plain_outcome(
-    alloc: Global,
-    binder: &Binder,
-    operands: &[Value],
-) -> Result<Outcome, AllocError>
+fn plain_outcome(alloc: Global, binder: &Binder, operands: &[Value]) -> Result<Outcome, AllocError>
     requires count { length operands.now ≡ operand_count_of binder.now }
     requires proper { AllByRecursion IsProper operands.now }
     ensures outcome { IfOk result (λ o. o ≡ plain_step binder.now operands.now) }

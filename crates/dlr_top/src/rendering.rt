@@ -21,11 +21,7 @@ pub fn render(program: &Program, report: &Report, out: &mut Vec<u8>) -> Result<(
 }
 
 /// The text of a lawful report, as UTF-8.
-fn rendered(
-    alloc: Global,
-    program: &Program,
-    report: &Report,
-) -> Result<Vec<u8>, AllocError>
+fn rendered(alloc: Global, program: &Program, report: &Report) -> Result<Vec<u8>, AllocError>
     requires { IsLawful (script_of program.now) report.now }
     ensures { IfOk result (λ text. text.items ≡ encode_utf8_all (report_text (script_of program.now) report.now)) }
 {

@@ -41,15 +41,7 @@ fn run_one<R: Wait>(
 {
     let mut world = PlainWorld::new(alloc, program);
     let mut printed = Printed::new(alloc);
-    let ended = run_task(
-        rt,
-        alloc,
-        program,
-        task,
-        TURNS,
-        &mut world,
-        &mut printed,
-    )?;
+    let ended = run_task(rt, alloc, program, task, TURNS, &mut world, &mut printed)?;
     let lines = printed.into_lines();
     Ok(TaskEnd { lines, ended })
 }

@@ -6,7 +6,8 @@ use std::io;
 use std::io::{ErrorKind, Read, Write};
 use std::test::Fail;
 
-const USAGE: &str = "usage: dlr run [--serial] [--journal] [--stats] [--rules] [--turns N] [--objects N] | check | drill SEED\n";
+const USAGE: &str =
+    "usage: dlr run [--serial] [--journal] [--stats] [--rules] [--turns N] [--objects N] | check | drill SEED\n";
 
 // No call of a device has this number.
 const NEVER: u64 = u64::MAX;
@@ -118,7 +119,14 @@ fn words_that_are_no_command_give_the_usage_line(rt: HostRuntime) -> Result<(), 
         let words = words(alloc, texts)?;
         let mut source = slow_source(alloc, "task a { print 1; }", 0)?;
         let mut sink = slow_sink(alloc, fails_at);
-        let outcome = top(&rt, alloc, words.as_slice(), &mut source, &mut sink, &OpenGate);
+        let outcome = top(
+            &rt,
+            alloc,
+            words.as_slice(),
+            &mut source,
+            &mut sink,
+            &OpenGate,
+        );
         assert_eq!(rt; outcome.status, WORDS_REFUSED);
         assert!(rt; outcome.report.is_none());
         assert_eq!(rt; sink.clean.bytes(), want.as_bytes());
@@ -134,7 +142,14 @@ fn a_source_that_fails_leaves_the_sink_as_it_was(rt: HostRuntime) -> Result<(), 
         let words = words(alloc, &["run"])?;
         let mut source = slow_source(alloc, "task a { print (1 + 2); }", fails_at)?;
         let mut sink = slow_sink(alloc, NEVER);
-        let outcome = top(&rt, alloc, words.as_slice(), &mut source, &mut sink, &OpenGate);
+        let outcome = top(
+            &rt,
+            alloc,
+            words.as_slice(),
+            &mut source,
+            &mut sink,
+            &OpenGate,
+        );
         assert_eq!(rt; outcome.status, SOURCE_FAILED, "at {fails_at}");
         assert!(rt; outcome.report.is_none());
         assert_eq!(rt; sink.clean.bytes(), b"".as_slice());
@@ -206,8 +221,43 @@ fn a_reader_and_a_writer_serve_the_command(rt: HostRuntime) -> Result<(), Fail> 
     let words = words(alloc, &["drill"])?;
     let mut source = InputSource::new(b"task a { }".as_slice());
     let mut sink = OutputSink::new(&mut written);
-    let outcome = top(&rt, alloc, words.as_slice(), &mut source, &mut sink, &OpenGate);
+    let outcome = top(
+        &rt,
+        alloc,
+        words.as_slice(),
+        &mut source,
+        &mut sink,
+        &OpenGate,
+    );
     assert_eq!(rt; outcome.status, WORDS_REFUSED);
     assert_eq!(rt; written.as_slice(), USAGE.as_bytes());
+    Ok(())
+}
+
+#[test]
+fn a_sink_that_fails_keeps_a_front_of_the_text(rt: HostRuntime) -> Result<(), Fail> {
+    let alloc = rt.alloc();
+    // The writes take 1, 2 and 2 bytes.
+    for (fails_at, want, status) in [
+        (0, "", SINK_FAILED),
+        (1, "a", SINK_FAILED),
+        (2, "a: ", SINK_FAILED),
+        (NEVER, "a: 3\n", ALL_DONE),
+    ] {
+        let words = words(alloc, &["run"])?;
+        let mut source = slow_source(alloc, "task a { print (1 + 2); }", NEVER)?;
+        let mut sink = slow_sink(alloc, fails_at);
+        let outcome = top(
+            &rt,
+            alloc,
+            words.as_slice(),
+            &mut source,
+            &mut sink,
+            &OpenGate,
+        );
+        assert_eq!(rt; outcome.status, status, "at {fails_at}");
+        assert!(rt; outcome.report.is_some());
+        assert_eq!(rt; sink.clean.bytes(), want.as_bytes());
+    }
     Ok(())
 }

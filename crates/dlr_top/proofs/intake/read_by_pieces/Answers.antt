@@ -1,5 +1,4 @@
-use Rattle.std.proofs.Common.{◌≡◌, ◌≤◌, length, vec_len, inl, inr, refl, sym, ◌∙◌, ap, subst, arith, rules}
-use Rattle.dlr_top.specs.Devices.{TakesFirst, IsAtEnd}
+use Rattle.std.proofs.Common.{◌≡◌, ◌≤◌, length, inl, inr, arith}
 use Rattle.dlr_top.proofs.Moves.{Ended, takes_nothing, all_read, read_through}
 use Rattle.dlr_top.proofs.intake.read_by_pieces.Goals as goal
 

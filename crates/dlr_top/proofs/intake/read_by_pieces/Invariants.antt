@@ -1,4 +1,4 @@
-use Rattle.std.proofs.Common.{◌-◌, ◌≤◌, ◌<◌, length, vec_len}
+use Rattle.std.proofs.Common.{◌-◌, ◌≤◌, vec_len}
 use Rattle.dlr_top.specs.Devices.{TakesFirst}
 use Rattle.dlr_top.proofs.intake.read_by_pieces.Given as goal
 

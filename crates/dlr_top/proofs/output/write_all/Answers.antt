@@ -1,5 +1,5 @@
-use Rattle.std.proofs.Common.{◌≡◌, ◌∙◌, ◌+◌, ◌-◌, ◌≤◌, length, length-drop, take, drop, rules, arith, ap, subst, OnErr, Result, Ok, Err}
-use Rattle.dlr_top.specs.Devices.{Adds, AddsFirst}
+use Rattle.std.proofs.Common.{◌≡◌, ◌∙◌, ◌-◌, length, length-drop, take, arith, ap, OnErr, Result, Ok, Err}
+use Rattle.dlr_top.specs.Devices.{Adds}
 use Rattle.dlr_top.proofs.Moves.{adds_on, adds_front}
 use Rattle.dlr_top.proofs.output.write_all.Goals as goal
 

@@ -9,8 +9,8 @@ use Rattle.dlr_top.proofs.rendering.render_task.Goals as goal
 pub loop-line-preserved : goal.loop-line-preserved
 loop-line-preserved c =
     row_more (line_text c.args.task.now.name) c.as_slice-line-items.result.now c.loop-line.line-index c.line-item.result c.args.out.now.items c.loop-line.out.items c.render_line.new.out.items
-      c.loop-line-test.true c.loop-line.invariant
-      (subst (λ z. c.render_line.new.out.items ≡ c.loop-line.out.items ++ encode_utf8_all (line_text c.args.task.now.name z)) c.line-item.is c.in_ok-render_line.ensures)
+    c.loop-line-test.true c.loop-line.invariant
+    (subst (λ z. c.render_line.new.out.items ≡ c.loop-line.out.items ++ encode_utf8_all (line_text c.args.task.now.name z)) c.line-item.is c.in_ok-render_line.ensures)
 
 pub returns : goal.returns
 returns c =

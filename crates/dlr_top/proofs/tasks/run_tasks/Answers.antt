@@ -6,4 +6,4 @@ use Rattle.dlr_top.proofs.tasks.run_tasks.Goals as goal
 pub loop-task-preserved : goal.loop-task-preserved
 loop-task-preserved g c =
     subst (AreEnds (script_of c.args.program.now) (c.loop-task.task + 1)) (sym c.in_ok-push.ensures.ok)
-      (one_more_end (script_of c.args.program.now) c.loop-task.task c.loop-task.tasks c.in_ok-run_one.field-0 c.loop-task.invariant c.in_ok-run_one.ensures)
+    (one_more_end (script_of c.args.program.now) c.loop-task.task c.loop-task.tasks c.in_ok-run_one.field-0 c.loop-task.invariant c.in_ok-run_one.ensures)
