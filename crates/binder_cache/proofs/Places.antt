@@ -1,17 +1,17 @@
 -- The rules at the places of an order, beside the rows that hold them.
-use Rattle.std.proofs.Common.{◌≡◌, ◌≢◌, ℕ, zero, suc, ◌+◌, ◌<◌, ◌≤◌, ◌^◌, ◌⊎◌, ⊎_elim, inl, inr, Bool, true, false, cond, List, [], ◌∷◌, ◌++◌, length, take, drop, get_or, refl, sym, ◌∙◌, ap, subst, arith, Option, Some, None, slice_get, Contains, All, AllPairs, Any, length-append}
-use Rattle.std.specs.Prelude.{option_map, filter_map, nat_lt}
+use Rattle.std.proofs.Common.{◌≡◌, ◌≢◌, ℕ, zero, suc, ◌+◌, ◌<◌, ◌≤◌, ◌^◌, ◌⊎◌, ⊎_elim, inl, inr, true, false, cond, List, [], ◌∷◌, ◌++◌, length, take, drop, get_or, refl, sym, ◌∙◌, ap, subst, arith, Option, Some, None, slice_get, Contains, All, AllPairs, length-append}
+use Rattle.std.specs.Prelude.{option_map}
 use Rattle.std.specs.List.{AllByRecursion, AllWithin, IsDistinct, cons_option}
 use Rattle.std.proofs.Math.Dec.{eqb, ltb}
-use Rattle.std.proofs.lemmas.Bool.{eqb-false, eqb-true, ne_eqb, lt-ltb, ltb-true}
+use Rattle.std.proofs.lemmas.Bool.{eqb-false, eqb-true, lt-ltb, ltb-true}
 use Rattle.std.proofs.lemmas.Bool.Decides.{eqb_tells}
-use Rattle.std.proofs.lemmas.List.{take_more, take_all, take-append-drop}
+use Rattle.std.proofs.lemmas.List.{take_more}
 use Rattle.std.proofs.lemmas.List.Elements.{All-from_recursion, recursion_from_All, All-contains, All-cons, All-push, filter_map-append, Contains-append_right}
 use Rattle.std.proofs.lemmas.List.Kept.{AllPairs-cons}
 use Rattle.std.proofs.lemmas.Map.Steps.{length-le_from_distinct_below}
 use Rattle.std.proofs.lemmas.Map.Views.{Contains-from_any}
 use Rattle.std.proofs.lemmas.Option.{slice_get_within, get_or_from_slice_get, slice_get-get_or, none-some, slice_get_past}
-use Rattle.rule_cells.specs.Cells.{index_of, rule_of}
+use Rattle.rule_cells.specs.Cells.{index_of}
 use Rattle.binder_cache.specs.declared.rows.Row.{Row}
 use Rattle.binder_cache.specs.Known.{KnownRule, BringsFirst}
 use Rattle.binder_cache.specs.Row.{shown, shown_at, in_order, word_for, HasWords, IsFirst}
@@ -28,8 +28,8 @@ pub each_placed : (order : List ℕ) (n s : ℕ) → IsDistinct eqb order → Al
 unfolding IsDistinct
 each_placed order n s distinct below counted here = ⊎_elim (λ (c : Contains order s). c)
     (λ (a : AllByRecursion (λ y. eqb s y ≡ false) order). absurd (
-      let more : length (s ∷ order) ≤ n = length-le_from_distinct_below (s ∷ order) n (a, distinct) (λ q t. All-contains (λ x. x < n) (s ∷ order) q (All-cons (λ x. x < n) s order here below) (Contains-from_any {eq = eqb} (λ x y e. eqb-true x y e) q (s ∷ order) t)) in
-      omega arith))
+    let more : length (s ∷ order) ≤ n = length-le_from_distinct_below (s ∷ order) n (a, distinct) (λ q t. All-contains (λ x. x < n) (s ∷ order) q (All-cons (λ x. x < n) s order here below) (Contains-from_any {eq = eqb} (λ x y e. eqb-true x y e) q (s ∷ order) t)) in
+    omega arith))
     (place_of s order)
 
 -- words differ where places and indexes do
@@ -44,9 +44,9 @@ word_apart s t i j places indexes =
     elim (ltb i (2 ^ 63)) as (λ b. ltb i (2 ^ 63) ≡ b → cond b (i + 1) (2 ^ 63 + 1 + s) ≢ word_for t j) [
       | true ↦ λ h. let small : i < 2 ^ 63 = ltb-true i (2 ^ 63) h in elim (ltb j (2 ^ 63)) as (λ b. i + 1 ≢ cond b (j + 1) (2 ^ 63 + 1 + t)) [ true ↦ λ e. indexes (omega arith) | false ↦ λ e. absurd (omega arith) ]
       | false ↦ λ h. elim (ltb j (2 ^ 63)) as (λ b. ltb j (2 ^ 63) ≡ b → 2 ^ 63 + 1 + s ≢ cond b (j + 1) (2 ^ 63 + 1 + t)) [
-          | true ↦ λ k. let small : j < 2 ^ 63 = ltb-true j (2 ^ 63) k in λ e. absurd (omega arith)
-          | false ↦ λ k e. places (omega arith)
-        ] refl
+        | true ↦ λ k. let small : j < 2 ^ 63 = ltb-true j (2 ^ 63) k in λ e. absurd (omega arith)
+        | false ↦ λ k e. places (omega arith)
+      ] refl
     ] refl
 
 nothing : (order : List ℕ) → AllByRecursion (λ _. Unit {0}) order
@@ -161,7 +161,7 @@ module _ {R A : Type 0} where
       let here : slice_get rows c.0 ≡ Some row = slice_get-get_or rows c.0 row c.1 ∙ ap Some c.2 in
       All-from_recursion P (in_order rows order) (each_shown P (λ _. Unit {0}) rows
       (λ s a _ e same. ⊎_elim (λ (h : (eqb s c.0 ≡ true) × (s ≡ c.0)). let q : Some a ≡ Some row = sym e ∙ ap (slice_get rows) h.1 ∙ here in ap shown (let r : a ≡ row = cc in r))
-          (λ (h : (eqb s c.0 ≡ false) × (s ≢ c.0)). absurd (rows_apart rows apart s c.0 a row h.1 e here same)) (eqb_tells s c.0)) order (nothing order))
+      (λ (h : (eqb s c.0 ≡ false) × (s ≢ c.0)). absurd (rows_apart rows apart s c.0 a row h.1 e here same)) (eqb_tells s c.0)) order (nothing order))
 
   -- the rule of a row whose place the order names
   in_order_has : (rows : List (Row R A)) (order : List ℕ) (s : ℕ) (row : Row R A) → slice_get rows s ≡ Some row → (k : ℕ) → k < length order → get_or order k s ≡ s → Contains (in_order rows order) (shown row)

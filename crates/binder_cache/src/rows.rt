@@ -111,11 +111,7 @@ impl<R, A> KnownRules<R, A> {
     }
 
     /// Brings the most recent rule that passes before all others.
-    pub fn find<P: Probe<R>>(
-        &mut self,
-        cells: &Cells<Publication<R>>,
-        probe: &P,
-    ) -> Option<u64>
+    pub fn find<P: Probe<R>>(&mut self, cells: &Cells<Publication<R>>, probe: &P) -> Option<u64>
         requires { AreOf cells.now self.old.rows.items }
         ensures none { IfNone result (All (λ known. ¬ P.accepts probe.now known.rule) (rules_in self.old)) }
         ensures same { IfNone result (rules_in self.new ≡ rules_in self.old) }
@@ -133,8 +129,9 @@ impl<R, A> KnownRules<R, A> {
         ensures none { IfNone result (All (λ known. ¬ P.accepts probe.now known.rule) (rules_in self.now)) }
         ensures found { IfSome result (IsFirst (P.accepts probe.now) self.now.rows.items self.now.order) }
     {
+        let known = self.rows.len();
         let mut at = self.order.first();
-        for _step in 0..self.rows.len() {
+        for _step in 0..known {
             let place = at?;
             let publication = cells.show(&self.rows[place as usize].known);
             if probe.passes(&publication.rule) {

@@ -25,7 +25,11 @@ impl Adopt<u32, u32> for Halves {
     ghost admits = { λ _ _ _. ⊤ };
 
     fn adopt(&mut self, rule: &u32) -> Option<u32> {
-        if *rule % 2 == 0 { Some(*rule / 2) } else { None }
+        if *rule % 2 == 0 {
+            Some(*rule / 2)
+        } else {
+            None
+        }
     }
 }
 
@@ -35,7 +39,11 @@ fn shown(cache: &Cache<u32>, pass: &mut CachePass<u32, u32>, rule: u32) -> Optio
     ensures { IsPassOf cache.now pass.new }
 {
     let index = cache.find(pass, &Equals(rule))?;
-    Some((*cache.show(pass, index), *cache.note(pass, index), pass.word(index)))
+    Some((
+        *cache.show(pass, index),
+        *cache.note(pass, index),
+        pass.word(index),
+    ))
 }
 
 #[test]
@@ -45,20 +53,28 @@ fn a_pass_finds_what_another_published(rt: HostRuntime) -> Result<(), Fail> {
     let mut second: CachePass<u32, u32> = cache.pass(rt.alloc())?;
     for rule in 10..13u32 {
         let published = cache.publish(&rt, &mut first, rule, 0).ok();
-        assert!(rt; matches!(published, Some(Published::At(index)) if index == u64::from(rule - 10)));
+        assert!(rt;
+            matches!(published, Some(Published::At(index)) if index == u64::from(rule - 10))
+        );
     }
     assert_eq!(rt; cache.find(&mut second, &Equals(12)), None);
     cache.learn(&mut second, &mut Halves);
     cache.learn(&mut first, &mut Halves);
     assert_eq!(rt; (first.published(), first.foreign()), (3, 0));
     assert_eq!(rt; (second.published(), second.foreign()), (0, 2));
-    assert_eq!(rt; (second.at(0), second.at(1), second.at(2)), (Some(2), Some(0), None));
+    assert_eq!(rt;
+        (second.at(0), second.at(1), second.at(2)),
+        (Some(2), Some(0), None)
+    );
     assert_eq!(rt; cache.find(&mut second, &Equals(11)), None);
     assert_eq!(rt; cache.find(&mut second, &Equals(10)), Some(0));
     assert_eq!(rt; (second.at(0), second.at(1)), (Some(0), Some(2)));
     assert_eq!(rt; shown(&cache, &mut second, 12), Some((12, 6, 3)));
     assert_eq!(rt; shown(&cache, &mut first, 11), Some((11, 0, 2)));
-    assert_eq!(rt; (second.named(1), second.named(2), second.named(3)), (Some(0), None, Some(2)));
+    assert_eq!(rt;
+        (second.named(1), second.named(2), second.named(3)),
+        (Some(0), None, Some(2))
+    );
     Ok(())
 }
 

@@ -1,14 +1,7 @@
-use Rattle.std.proofs.Common.{◌≡◌, ◌≢◌, ℕ, suc, ◌+◌, ◌<◌, ◌≤◌, ◌⊎◌, ⊎_elim, List, [], ◌∷◌, ◌++◌, length, take, get_or, refl, sym, ◌∙◌, ap, subst, arith, Option, Some, None, slice_get, Contains, All, AllPairs, Any, vec_len}
-use Rattle.std.specs.Prelude.{option_map}
-use Rattle.std.proofs.lemmas.List.Elements.{All-contains, All-from_all_within, AllWithin-more}
-use Rattle.std.proofs.lemmas.List.{take_all}
-use Rattle.std.proofs.lemmas.Option.{slice_get_within, get_or_from_slice_get, slice_get_past, slice_get_read, slice_get-get_or}
-use Rattle.rule_cells.specs.Cells.{index_of, rule_of}
-use Rattle.binder_cache.specs.Known.{KnownRule, BringsFirst, AddsFirst}
-use Rattle.binder_cache.specs.Row.{shown, shown_at, in_order, IsFirst}
-use Rattle.binder_cache.specs.Rows.{rules_in}
-use Rattle.binder_cache.specs.declared.rows.Row.{Row}
-use Rattle.binder_cache.proofs.Places.{all_shown, only_row, row_known, row_word, in_order_at, length-in_order, in_order-first, more_fail, first_at, brings_first, moved_length, moved_all, held_at, placed_at, shown_index, item_at, at_none, at_some}
+use Rattle.std.proofs.Common.{ℕ, ◌<◌, sym, ◌∙◌, vec_len}
+use Rattle.std.proofs.lemmas.List.Elements.{All-contains}
+use Rattle.std.proofs.lemmas.Option.{slice_get_read}
+use Rattle.binder_cache.proofs.Places.{brings_first, moved_length, moved_all, held_at, shown_index}
 use Rattle.binder_cache.proofs.rows.KnownRules.find.Goals as goal
 
 pub to_front-requires : goal.to_front-requires
@@ -16,13 +9,13 @@ to_front-requires g c = let f = c.in_ok-place.ensures.found in held_at f.before 
 
 pub invariant_of-self : goal.invariant_of-self
 invariant_of-self g c = let v = c.args.self.now in let f = c.in_ok-place.ensures.found in let s : ℕ = c.in_ok-place.place in let moved = c.to_front.ensures.moved f.before f.after f.order_is in record {
-      room = v.room;
-      counted = moved_length f.before f.after s v.order c.to_front.new.self f.order_is moved ∙ v.counted;
-      once = c.to_front.ensures.order.distinct;
-      placed = moved_all (λ x. x < vec_len v.rows) f.before f.after s v.order c.to_front.new.self f.order_is moved v.placed;
-      apart = v.apart;
-      worded = v.worded;
-    }
+  room = v.room;
+  counted = moved_length f.before f.after s v.order c.to_front.new.self f.order_is moved ∙ v.counted;
+  once = c.to_front.ensures.order.distinct;
+  placed = moved_all (λ x. x < vec_len v.rows) f.before f.after s v.order c.to_front.new.self f.order_is moved v.placed;
+  apart = v.apart;
+  worded = v.worded;
+}
 
 pub index-requires : goal.index-requires
 index-requires g c = let v = c.args.self.now in let f = c.in_ok-place.ensures.found in All-contains (λ x. x < vec_len v.rows) v.order c.in_ok-place.place v.placed (held_at f.before f.after c.in_ok-place.place v.order f.order_is)

@@ -1,5 +1,4 @@
 use Rattle.std.proofs.Common.{◌≡◌}
-use Rattle.rule_cells.specs.Cells.{index_of}
 use Rattle.binder_cache.proofs.Places.{NoneAt}
 use Rattle.binder_cache.proofs.rows.KnownRules.row.Given as goal
 
