@@ -1,5 +1,5 @@
 -- What a user sees of a pass, and what each call does to it.
-use Rattle.std.specs.Prelude.{◌≡◌, ℕ, ◌+◌, ◌<◌, ◌≤◌, List, ◌++◌, All, AllPairs, length}
+use Rattle.std.specs.Prelude.{◌≡◌, ℕ, ◌+◌, ◌<◌, ◌≤◌, List, ◌++◌, All, AllPairs, length, ⊤}
 use Rattle.binder_cache.specs.declared.cache.Cache.{Cache}
 use Rattle.binder_cache.specs.declared.cache.Published.{Published}
 use Rattle.binder_cache.specs.declared.cache.Published.TheVariants.{At, Past}
@@ -35,10 +35,21 @@ module _ {R A : Type 0} where
     pub foreign : foreign_of new ≡ foreign_of old
     pub looked : looked_of new ≡ looked_of old
 
-  -- a fact for each variant: of the index, or of the rule and the note that came back
-  abbrev pub MatchPublished : Published R A → (ℕ → Type 0) → (R → A → Type 0) → Type 0
-  MatchPublished (At index) P Q = P index
-  MatchPublished (Past rule note) P Q = Q rule note
+  -- a fact of the index, if the rule was published
+  abbrev pub IfAt : Published R A → (ℕ → Type 0) → Type 0
+  IfAt (At index) P = P index
+  IfAt (Past rule note) P = ⊤
+
+  -- a fact of the rule and the note, if they came back
+  abbrev pub IfPast : Published R A → (R → A → Type 0) → Type 0
+  IfPast (At index) P = ⊤
+  IfPast (Past rule note) P = P rule note
+
+  -- the rule and the note came back, and the pass is as before
+  pub record ComesBack (old new : CachePass R A) (rule : R) (note : A) (back_rule : R) (back_note : A) : Type 0 where
+    pub rule_is : back_rule ≡ rule
+    pub note_is : back_note ≡ note
+    pub pass_is : new ≡ old
 
   -- the pass knows one more rule of its own, before all others
   pub record Publishes (old new : CachePass R A) (rule : R) (note : A) (index : ℕ) : Type 0 where

@@ -26,7 +26,8 @@ module _ {R A : Type 0} where
 
   -- each row has the word of its place and its index
   abbrev pub HasWords : List (Row R A) → Type 0
-  HasWords rows = (place : ℕ) (d : Row R A) → place < length rows → (slice_index_or rows place d).word ≡ word_for place (index_of (slice_index_or rows place d).known)
+  HasWords rows = (place : ℕ) (d : Row R A) → place < length rows →
+      let row = slice_index_or rows place d in row.word ≡ word_for place (index_of row.known)
 
   -- all rows show rules of these cells
   abbrev pub AreOf : Cells (Publication R) → List (Row R A) → Type 0
@@ -34,11 +35,13 @@ module _ {R A : Type 0} where
 
   -- the rules that a pass published have numbers below a count
   abbrev pub HasOwnBelow : List (Row R A) → ℕ → ℕ → Type 0
-  HasOwnBelow rows pass count = All (λ (row : Row R A). (rule_of row.known).pass ≡ pass → (rule_of row.known).number < count) rows
+  HasOwnBelow rows pass count =
+      All (λ (row : Row R A). (rule_of row.known).pass ≡ pass → (rule_of row.known).number < count) rows
 
   -- the rules of other passes have indexes below one
   abbrev pub HasOthersBelow : List (Row R A) → ℕ → ℕ → Type 0
-  HasOthersBelow rows pass index = All (λ (row : Row R A). (rule_of row.known).pass ≢ pass → index_of row.known < index) rows
+  HasOthersBelow rows pass index =
+      All (λ (row : Row R A). (rule_of row.known).pass ≢ pass → index_of row.known < index) rows
 
   -- there is one row more, the last
   pub record AddsRow (old new : List (Row R A)) (known : Known (Publication R)) : Type 0 where

@@ -1,8 +1,8 @@
 //! A binder's rules and the calls that a pass makes on them.
-ghost use Rattle.std.specs.Prelude.{◌≡◌, ◌≢◌, ◌+◌, ◌^◌, ◌<◌, ◌≤◌, ◌↔◌, All, Contains, IsTrue, IfOk, IfErr, IfSome, IfNone, [], Ok, ⊤};
+ghost use Rattle.std.specs.Prelude.{◌≡◌, ◌≢◌, ◌+◌, ◌^◌, ◌<◌, ◌≤◌, ◌↔◌, All, Contains, IsTrue, IfOk, IfErr, IfSome, IfNone, [], Ok};
 ghost use Rattle.rule_cells.specs.Cells.{IsKnownOf, index_of, rule_of};
 ghost use Rattle.binder_cache.specs.Known.{KnownRule, Knows, BringsFirst};
-ghost use Rattle.binder_cache.specs.Pass.{known_of, published_of, foreign_of, looked_of, IsPassOf, Publishes, Learns, SameCounts, MatchPublished};
+ghost use Rattle.binder_cache.specs.Pass.{known_of, published_of, foreign_of, looked_of, IsPassOf, Publishes, Learns, SameCounts, ComesBack, IfAt, IfPast};
 
 use crate::pass::{CachePass, FOREIGN, OWN};
 use crate::probe::{Adopt, Probe};
@@ -35,8 +35,9 @@ impl<R: Drop> Cache<R> {
         })
     }
 
-    /// Publishes a rule, which the pass then knows at the index that comes back, before all others and with this note.
-    /// Where the pass has published as many as it may, rule and note come back as `Past`; for want of memory as an error. The pass is then as before.
+    /// Publishes a rule. The pass then knows it at the index that comes back, with this note and before all others.
+    /// Rule and note come back as `Past` exactly where the pass has published 64 here, and as an error for want of
+    /// memory. The pass is then as before.
     pub fn publish<A>(
         &self,
         rt: &impl Wait,
@@ -47,9 +48,12 @@ impl<R: Drop> Cache<R> {
         requires { IsPassOf self.now pass.old }
         ensures pass { IsPassOf self.now pass.new }
         ensures full { published_of pass.old ≡ 64 → result ≡ Ok (Published.Past rule note) }
-        ensures ok { IfOk result (λ published. MatchPublished published (Publishes pass.old pass.new rule note) (λ r n. (r ≡ rule) × (n ≡ note) × (published_of pass.old ≡ 64) × (pass.new ≡ pass.old))) }
-        ensures known { IfOk result (λ published. MatchPublished published (Knows (known_of pass.new)) (λ _ _. ⊤)) }
-        ensures err { IfErr result (λ refused. (refused.0 ≡ rule) × (refused.1 ≡ note) × (pass.new ≡ pass.old)) }
+        ensures at { IfOk result (λ published.
+            IfAt published (Publishes pass.old pass.new rule note)) }
+        ensures known { IfOk result (λ published. IfAt published (Knows (known_of pass.new))) }
+        ensures past { IfOk result (λ published.
+            IfPast published (λ r n. ComesBack pass.old pass.new rule note r n × (published_of pass.old ≡ 64))) }
+        ensures err { IfErr result (λ refused. ComesBack pass.old pass.new rule note refused.0 refused.1) }
     {
         if pass.published == OWN {
             return Ok(Published::Past(rule, note));
@@ -89,13 +93,16 @@ impl<R> Cache<R> {
         CachePass::new(alloc, self.passes.fetch_add(1, Ordering::SeqCst))
     }
 
-    /// The index of the most recent known rule that passes, which comes before all others. `None` exactly where no known rule passes.
+    /// The index of the most recent known rule that passes, which comes before all others.
+    /// `None` exactly where no known rule passes.
     pub fn find<A, P: Probe<R>>(&self, pass: &mut CachePass<R, A>, probe: &P) -> Option<u64>
         requires { IsPassOf self.now pass.old }
         ensures pass { IsPassOf self.now pass.new }
-        ensures none { IfNone result (All (λ known. ¬ P.accepts probe.now known.rule) (known_of pass.old)) }
+        ensures none { IfNone result
+            (All (λ known. ¬ P.accepts probe.now known.rule) (known_of pass.old)) }
         ensures same { IfNone result (known_of pass.new ≡ known_of pass.old) }
-        ensures found { IfSome result (BringsFirst (P.accepts probe.now) (known_of pass.old) (known_of pass.new)) }
+        ensures found { IfSome result
+            (BringsFirst (P.accepts probe.now) (known_of pass.old) (known_of pass.new)) }
         ensures known { IfSome result (Knows (known_of pass.new)) }
         ensures counts { SameCounts pass.old pass.new }
     {
@@ -106,7 +113,8 @@ impl<R> Cache<R> {
     pub fn show<'a, A>(&'a self, pass: &CachePass<R, A>, index: u64) -> &'a R
         requires pass { IsPassOf self.now pass.now }
         requires known { Knows (known_of pass.now) index }
-        ensures { (known : KnownRule R A) → Contains (known_of pass.now) known → known.index ≡ index → result.now ≡ known.rule }
+        ensures { (known : KnownRule R A) → Contains (known_of pass.now) known
+            → known.index ≡ index → result.now ≡ known.rule }
     {
         &self.cells.show(&pass.rules.row(index).known).rule
     }
@@ -115,7 +123,8 @@ impl<R> Cache<R> {
     pub fn note<'a, A>(&self, pass: &'a CachePass<R, A>, index: u64) -> &'a A
         requires pass { IsPassOf self.now pass.now }
         requires known { Knows (known_of pass.now) index }
-        ensures { (known : KnownRule R A) → Contains (known_of pass.now) known → known.index ≡ index → result.now ≡ known.note }
+        ensures { (known : KnownRule R A) → Contains (known_of pass.now) known
+            → known.index ≡ index → result.now ≡ known.note }
     {
         &pass.rules.row(index).note
     }
@@ -126,7 +135,8 @@ impl<R> Cache<R> {
         requires { IsPassOf self.now pass.old }
         ensures pass { IsPassOf self.now pass.new }
         ensures learns { Learns (P.admits adopt.old) pass.old pass.new }
-        ensures same { (rule : R) (note : A) → P.admits adopt.new rule note ↔ P.admits adopt.old rule note }
+        ensures same { (rule : R) (note : A) →
+            P.admits adopt.new rule note ↔ P.admits adopt.old rule note }
     {
         while pass.foreign < FOREIGN && self.learn_next(pass, adopt) {}
     }
@@ -137,7 +147,8 @@ impl<R> Cache<R> {
         requires room { foreign_of pass.old < 64 }
         ensures pass { IsPassOf self.now pass.new }
         ensures learns { Learns (P.admits adopt.old) pass.old pass.new }
-        ensures same { (rule : R) (note : A) → P.admits adopt.new rule note ↔ P.admits adopt.old rule note }
+        ensures same { (rule : R) (note : A) →
+            P.admits adopt.new rule note ↔ P.admits adopt.old rule note }
         ensures on { IsTrue result → looked_of pass.old < looked_of pass.new }
         ensures bounded { looked_of pass.new < 2 ^ 64 }
     {

@@ -1,4 +1,4 @@
-//! The known rules of a binder: each pass publishes its own, learns those of others, and finds the most recent that passes.
+//! The known rules of a binder: a pass publishes its own, learns those of others, and finds the most recent that passes.
 #![tactic(auto)]
 
 mod cache;

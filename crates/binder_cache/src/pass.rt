@@ -54,7 +54,8 @@ impl<R, A> CachePass<R, A> {
     // Adds a rule that this pass published.
     pub(crate) fn add_own(&mut self, known: Known<Publication<R>>, note: A)
         requires room { published_of self.old < 64 }
-        requires mine { ((rule_of known).pass ≡ self.old.number) × ((rule_of known).number ≡ self.old.published) }
+        requires mine { (rule_of known).pass ≡ self.old.number }
+        requires numbered { (rule_of known).number ≡ self.old.published }
         requires apart { All (λ row. index_of row.known ≢ index_of known) self.old.rules.rows.items }
         ensures publishes { Publishes self.old self.new (rule_of known).rule note (index_of known) }
         ensures rows { AddsRow self.old.rules.rows.items self.new.rules.rows.items known }
@@ -70,17 +71,21 @@ impl<R, A> CachePass<R, A> {
         requires seen { index_of known < looked_of self.old }
         requires apart { All (λ row. index_of row.known ≢ index_of known) self.old.rules.rows.items }
         ensures adds { AddsFirst (known_of self.old) (known_of self.new) (index_of known) (rule_of known).rule note }
-        ensures counts { (foreign_of self.new ≡ foreign_of self.old + 1) × (published_of self.new ≡ published_of self.old) × (looked_of self.new ≡ looked_of self.old) }
+        ensures foreign { foreign_of self.new ≡ foreign_of self.old + 1 }
+        ensures published { published_of self.new ≡ published_of self.old }
+        ensures looked { looked_of self.new ≡ looked_of self.old }
         ensures rows { AddsRow self.old.rules.rows.items self.new.rules.rows.items known }
     {
         self.rules.add(known, note);
         self.foreign += 1;
     }
 
-    /// The word that names a known rule at a site. It is not 0, no other known rule has it, and the rule keeps it.
+    /// The word that names a known rule at a site.
+    /// It is not 0, no other known rule has it, and the rule keeps it.
     pub fn word(&self, index: u64) -> u64
         requires { Knows (known_of self.now) index }
-        ensures word { (known : KnownRule R A) → Contains (known_of self.now) known → known.index ≡ index → result ≡ known.word }
+        ensures word { (known : KnownRule R A) → Contains (known_of self.now) known
+            → known.index ≡ index → result ≡ known.word }
         ensures small { index < 2 ^ 63 → result ≡ index + 1 }
         ensures named { result ≢ 0 }
         ensures apart { AllPairs (λ one other. one.word ≢ other.word) (known_of self.now) }
@@ -88,16 +93,18 @@ impl<R, A> CachePass<R, A> {
         self.rules.row(index).word
     }
 
-    /// The index of the known rule with this word, or `None` where no known rule has it.
+    /// The index of the known rule with this word. `None` exactly where no known rule has it.
     pub fn named(&self, word: u64) -> Option<u64>
         ensures none { IfNone result (All (λ known. known.word ≢ word) (known_of self.now)) }
-        ensures some { IfSome result (λ index. Any (λ known. (known.word ≡ word) × (known.index ≡ index)) (known_of self.now)) }
+        ensures some { IfSome result (λ index.
+            Any (λ known. (known.word ≡ word) × (known.index ≡ index)) (known_of self.now)) }
         ensures known { IfSome result (Knows (known_of self.now)) }
     {
         self.rules.named(word)
     }
 
-    /// The index of the known rule at a place of the order, or `None` where the pass knows no more rules than that.
+    /// The index of the known rule at a place of the order, from 0.
+    /// `None` exactly where the pass knows no more rules than that.
     pub fn at(&self, place: u32) -> Option<u64>
         ensures at { result ≡ option_map (λ known. known.index) (slice_get (known_of self.now) place) }
         ensures known { IfSome result (Knows (known_of self.now)) }

@@ -19,5 +19,6 @@ pub trait Adopt<R, A> {
     /// A note for a rule that may be known from now on, or `None` where it is refused.
     fn adopt(&mut self, rule: &R) -> Option<A>
         ensures admitted { IfSome result (λ note. admits self.old rule.now note) }
-        ensures same { (other : R) (note : A) → admits self.new other note ↔ admits self.old other note };
+        ensures same { (other : R) (note : A) →
+            admits self.new other note ↔ admits self.old other note };
 }

@@ -74,7 +74,8 @@ impl<R, A> KnownRules<R, A> {
     pub fn row(&self, index: u64) -> &Row<R, A>
         requires { Any (λ known. known.index ≡ index) (rules_in self.now) }
         ensures row { Contains self.now.rows.items result.now }
-        ensures rule { (known : KnownRule R A) → Contains (rules_in self.now) known → known.index ≡ index → known ≡ shown result.now }
+        ensures rule { (known : KnownRule R A) → Contains (rules_in self.now) known
+            → known.index ≡ index → known ≡ shown result.now }
         ensures small { index < 2 ^ 63 → result.now.word ≡ index + 1 }
         ensures named { result.now.word ≢ 0 }
     {
@@ -89,7 +90,8 @@ impl<R, A> KnownRules<R, A> {
     /// The index of the known rule that a word names.
     pub fn named(&self, word: u64) -> Option<u64>
         ensures none { IfNone result (All (λ known. known.word ≢ word) (rules_in self.now)) }
-        ensures some { IfSome result (λ index. Any (λ known. (known.word ≡ word) × (known.index ≡ index)) (rules_in self.now)) }
+        ensures some { IfSome result (λ index.
+            Any (λ known. (known.word ≡ word) × (known.index ≡ index)) (rules_in self.now)) }
     {
         for row in &self.rows {
             if row.word == word {
@@ -113,9 +115,11 @@ impl<R, A> KnownRules<R, A> {
     /// Brings the most recent rule that passes before all others.
     pub fn find<P: Probe<R>>(&mut self, cells: &Cells<Publication<R>>, probe: &P) -> Option<u64>
         requires { AreOf cells.now self.old.rows.items }
-        ensures none { IfNone result (All (λ known. ¬ P.accepts probe.now known.rule) (rules_in self.old)) }
+        ensures none { IfNone result
+            (All (λ known. ¬ P.accepts probe.now known.rule) (rules_in self.old)) }
         ensures same { IfNone result (rules_in self.new ≡ rules_in self.old) }
-        ensures found { IfSome result (BringsFirst (P.accepts probe.now) (rules_in self.old) (rules_in self.new)) }
+        ensures found { IfSome result
+            (BringsFirst (P.accepts probe.now) (rules_in self.old) (rules_in self.new)) }
         ensures rows { self.new.rows ≡ self.old.rows }
     {
         let place = self.first_passing(cells, probe)?;
@@ -126,8 +130,10 @@ impl<R, A> KnownRules<R, A> {
     // The place of the most recent rule that passes.
     fn first_passing<P: Probe<R>>(&self, cells: &Cells<Publication<R>>, probe: &P) -> Option<u8>
         requires { AreOf cells.now self.now.rows.items }
-        ensures none { IfNone result (All (λ known. ¬ P.accepts probe.now known.rule) (rules_in self.now)) }
-        ensures found { IfSome result (IsFirst (P.accepts probe.now) self.now.rows.items self.now.order) }
+        ensures none { IfNone result
+            (All (λ known. ¬ P.accepts probe.now known.rule) (rules_in self.now)) }
+        ensures found { IfSome result
+            (IsFirst (P.accepts probe.now) self.now.rows.items self.now.order) }
     {
         let known = self.rows.len();
         let mut at = self.order.first();
@@ -142,11 +148,13 @@ impl<R, A> KnownRules<R, A> {
         None
     }
 
-    /// Shows that a publication that no row has stands at an index that no row has: an index shows one publication.
+    /// Shows that a publication that no row has stands at an index that no row has.
+    /// An index shows one publication, so the test never holds.
     pub fn tell_apart(&self, cells: &Cells<Publication<R>>, known: &Known<Publication<R>>)
         requires rows { AreOf cells.now self.now.rows.items }
         requires known { IsKnownOf cells.now known.now }
-        requires other { All (λ row. index_of row.known ≡ index_of known.now → rule_of row.known ≢ rule_of known.now) self.now.rows.items }
+        requires other { All (λ row. index_of row.known ≡ index_of known.now
+            → rule_of row.known ≢ rule_of known.now) self.now.rows.items }
         ensures { All (λ row. index_of row.known ≢ index_of known.now) self.now.rows.items }
     {
         for row in &self.rows {

@@ -1,4 +1,4 @@
-//! What no clause says: which indexes rules get, and that a pass finds the finished publications of another.
+//! What no clause says: which indexes rules get, and that a pass learns the finished publications of another.
 ghost use Rattle.std.specs.Prelude.{◌≡◌, ⊤};
 ghost use Rattle.binder_cache.specs.Pass.{IsPassOf};
 
