@@ -1,0 +1,4 @@
+pub mod Known
+pub mod Row
+pub mod Rows
+pub mod Pass
