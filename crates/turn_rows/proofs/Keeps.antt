@@ -31,7 +31,7 @@ module _ {S : Type 0} where
   abbrev pub StagesStay : ℕ → List (View S) → List (View S) → Type 0
   StagesStay r vs vs' = (i : ℕ) (d : View S) → get_elem? vs i ≡ some d → About r d.stage → (d' : View S) × (get_elem? vs' i ≡ some d') × (d'.stage ≡ d.stage)
 
-  in_turn : (P Q : ℕ → ℕ → Type 0) → ((b k : ℕ) → P b k → Q b k) → (st : Stage S) → InTurn P st → InTurn Q st
+  pub in_turn : (P Q : ℕ → ℕ → Type 0) → ((b k : ℕ) → P b k → Q b k) → (st : Stage S) → InTurn P st → InTurn Q st
   in_turn P Q f Idle h = tt
   in_turn P Q f (Waiting b k) h = f b k h
   in_turn P Q f (Served b k) h = f b k h

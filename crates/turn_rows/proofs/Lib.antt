@@ -1,3 +1,4 @@
 pub mod Sums
 pub mod Lists
 pub mod Keeps
+pub mod Steps
