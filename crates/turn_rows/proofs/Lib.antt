@@ -2,3 +2,4 @@ pub mod Sums
 pub mod Lists
 pub mod Keeps
 pub mod Steps
+pub mod Draws

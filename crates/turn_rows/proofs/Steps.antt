@@ -45,7 +45,7 @@ module _ {S E T : Type 0} (m : Meaning S E T) (shared : ℕ) (start : List S) (t
   itself s r id v at live = record { number = refl; made = refl; more = le_refl v.own.calls; few = (my_log m shared start t s r id v at live).1.few; long = refl }
 
   -- a pass that made no other is the first, and the only one
-  alone_is : (s : St) (r : Rule s) (id : ℕ) (v : V) → get_elem? s.views id ≡ some v → v.live ≡ true → v.own.made ≡ 1 → (id ≡ 0) × (r.made ≡ 1)
+  pub alone_is : (s : St) (r : Rule s) (id : ℕ) (v : V) → get_elem? s.views id ≡ some v → v.live ≡ true → v.own.made ≡ 1 → (id ≡ 0) × (r.made ≡ 1)
   alone_is s r id v at live one = let me = (my_log m shared start t s r id v at live).1 in dite (ℕ_discrete id 0) (λ z. (z, sym (me.first z) ∙ one)) (λ n. let e = me.later (omega arith) in absurd (omega arith))
 
   -- the pass whose ticket is served has the turn
