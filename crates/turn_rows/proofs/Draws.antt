@@ -58,7 +58,7 @@ module _ {S E T : Type 0} (m : Meaning S E T) (shared : ℕ) (start : List S) (t
             (λ ne. absurd (let l = mine.0 in ne (omega arith))) refl;
       }
 
-  pub draws : (slots id : ℕ) (me : Me S V) → me.0.live ≡ true → me.0.own.calls < 2 ^ 60 → Allows Rule slots id me (length start * 8) (λ w. (w + 1) % 2 ^ 64) (drawn (step slots (length start * 8) 1 0 none) me)
+  draws : (slots id : ℕ) (me : Me S V) → me.0.live ≡ true → me.0.own.calls < 2 ^ 60 → Allows Rule slots id me (length start * 8) (λ w. (w + 1) % 2 ^ 64) (drawn (step slots (length start * 8) 1 0 none) me)
   draws slots id me live few s r _ at _ = let v : V = me.0 in let n : ℕ = length start in let x : ℕ = get_or s.words (n * 8) 0 in let c : Log S = with_draw v.own x in let cs : ℕ → Log S = put r.logs id c in let w : V = moved v v.stage c in
       let mine = my_log m shared start t s r id v at live in let f : Follows v.own c = record { number = refl; made = refl; more = omega arith; few = omega arith; long = refl } in
       let sums = sum_after (λ (z : Log S). z.calls) r.made id r.logs c mine.0 in let own : (r.logs id).calls ≡ v.own.calls = ap (λ (z : Log S). z.calls) (sym mine.2) in
@@ -93,3 +93,6 @@ module _ {S E T : Type 0} (m : Meaning S E T) (shared : ℕ) (start : List S) (t
         (refl, λ one. let u = alone_is m shared start t s r id v at live one in let a = r.draws.alone u.1 in let e : length (r.logs 0).draws ≡ length v.own.draws = ap (λ (y : Log S). length y.draws) (ap r.logs (sym u.0) ∙ sym mine.2) in
         let sh = ((r.each_view id v at).0 live).of_shared in omega arith),
       )
+
+  pub draws_at : (count : ℕ) → count ≡ length start → (slots id : ℕ) (me : Me S V) → me.0.live ≡ true → me.0.own.calls < 2 ^ 60 → Allows Rule slots id me (count * 8) (λ w. (w + 1) % 2 ^ 64) (drawn (step slots (count * 8) 1 0 none) me)
+  draws_at count e slots id me live few = subst (λ (n : ℕ). Allows Rule slots id me (n * 8) (λ w. (w + 1) % 2 ^ 64) (drawn (step slots (n * 8) 1 0 none) me)) (sym e) (draws slots id me live few)

@@ -3,3 +3,4 @@ pub mod Lists
 pub mod Keeps
 pub mod Steps
 pub mod Draws
+pub mod Turns

@@ -3,7 +3,6 @@ use Rattle.turn_rows.proofs.Lists.{times_else}
 use Rattle.turn_rows.proofs.Sums.{sum_few}
 use Rattle.turn_rows.proofs.Keeps.{turned}
 use Rattle.turn_rows.proofs.Steps.{looks}
-use Rattle.turn_rows.proofs.Draws.{draws}
 use Rattle.turn_rows.proofs.rows.RowPass.number.Goals as goal
 
 pub returns : goal.returns
