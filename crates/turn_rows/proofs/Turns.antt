@@ -61,3 +61,49 @@ module _ {S E T : Type 0} (m : Meaning S E T) where
     pub serves_next : (slots id : ℕ) (v : View S) (a k : ℕ) (y : S) (me : Me S (View S)) → v.live ≡ true → me ≡ (moved v (Leaving a k) (with_row v.own a y), [])
         → Allows (RowsHold m shared start t) slots id me (a * 8) (λ _. k + 1) (λ _. advanced (step slots (a * 8) (k + 1) 0 none) me (k + 1))
     serves_next slots id v a k y me live is = advances m shared start t slots id me a k (ap (λ (z : Me S (View S)). z.0.live) is ∙ live) (ap (λ (z : Me S (View S)). z.0.stage) is)
+
+  -- what a turn tells, of the log before and after it
+  module _ (then : S → S → Type 0) (v v' w : View S) (r k : ℕ) (is : v' ≡ moved v (Served r k) (with_call v.own)) (part : Ran m then v' r w) where
+    abbrev turn : Ran m then (moved v (Served r k) (with_call v.own)) r w
+    turn = subst (λ (z : View S). Ran m then z r w) is part
+
+    abbrev now_log : Log S
+    now_log = with_row (with_call v.own) r turn.left
+
+    log_is : w.own ≡ now_log
+    log_is = ap (λ (z : View S). z.own) turn.view_is
+
+    was_seen : seen_in m.entries v.own r ≡ m.entries turn.finds.sees.0
+    was_seen = ap (entries_at m.entries) turn.finds.sees.1
+
+    there : get_elem? now_log.rows r ≡ some turn.left
+    there = set_here v.own.rows r turn.left (at_inside v.own.rows r turn.finds.sees.0 turn.finds.sees.1)
+
+    had : StartsWith (m.entries turn.found) (seen_in m.entries v.own r)
+    had = subst (StartsWith (m.entries turn.found)) (sym was_seen) turn.finds.sees.2
+
+    mine : mine_in m.entries m.by v.own r ≡ made_by m.by v.own.number (m.entries turn.found)
+    mine = ap (made_by m.by v.own.number) was_seen ∙ sym turn.finds.sees.3
+
+    pub grows : StartsWith (seen_in m.entries w.own r) (seen_in m.entries v.own r)
+    grows = subst (λ (c : Log S). StartsWith (seen_in m.entries c r) (seen_in m.entries v.own r)) (sym log_is) (subst (λ (z : List E). StartsWith z (seen_in m.entries v.own r)) (sym (ap (entries_at m.entries) there))
+        (adds_front m.by v.own.number (m.entries turn.found) (m.entries turn.left) (seen_in m.entries v.own r) turn.adds had))
+
+    pub others : (b : ℕ) → b ≢ r → get_elem? w.own.rows b ≡ get_elem? v.own.rows b
+    others b ne = ap (λ (c : Log S). get_elem? c.rows b) log_is ∙ set_else v.own.rows r b turn.left ne
+
+    pub taken : (one : S) → get_elem? v.start 0 ≡ some one → TurnTaken m then one v.own r w.own
+    taken one head = subst (TurnTaken m then one v.own r) (sym log_is) record {
+      found = turn.found;
+      left = turn.left;
+      ran = turn.ran;
+      tagged = (turn.finds.tagged one head, turn.tagged ∙ turn.finds.tagged one head);
+      turns = turn.turns;
+      had_seen = had;
+      sees = ap (entries_at m.entries) there;
+      adds = ⊎_elim (λ (e : m.entries turn.left ≡ m.entries turn.found). inl (e, ap (made_by m.by v.own.number) (ap (entries_at m.entries) there ∙ e) ∙ sym mine))
+          (λ (h : (e : E) × (m.by e ≡ v.own.number) × (m.entries turn.left ≡ m.entries turn.found ++ e ∷ [])).
+          inr (h.0, h.1, h.2, ap (made_by m.by v.own.number) (ap (entries_at m.entries) there ∙ h.2) ∙ (own_more m.by v.own.number (m.entries turn.found) h.0 h.1 ∙ ap (λ (z : List E). z ++ h.0 ∷ []) (sym mine)))) turn.adds;
+      marked = ap (mark_at m.mark) there;
+      alone = λ e. let q = turn.finds.alone e in (ap (entries_at m.entries) (sym q), ap (mark_at m.mark) (sym q));
+    }
