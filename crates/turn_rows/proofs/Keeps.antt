@@ -53,7 +53,7 @@ module _ {S : Type 0} where
     pub long : length d.rows ≡ length c.rows
 
 module _ {S E T : Type 0} (m : Meaning S E T) where
-  about_turn : (hs : List (maybe.Option S)) (r now : ℕ) (x : S) (st : Stage S) → HasTurn m hs r now x st → About r st
+  pub about_turn : (hs : List (maybe.Option S)) (r now : ℕ) (x : S) (st : Stage S) → HasTurn m hs r now x st → About r st
   about_turn hs r now x Idle h = absurd h
   about_turn hs r now x (Waiting a k) h = h.0
   about_turn hs r now x (Served a k) h = h.0

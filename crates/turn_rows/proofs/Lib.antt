@@ -4,3 +4,5 @@ pub mod Keeps
 pub mod Steps
 pub mod Draws
 pub mod Turns
+pub mod Splits
+pub mod Joins

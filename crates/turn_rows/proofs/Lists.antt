@@ -1,5 +1,5 @@
 -- Lists read by their places, the beginnings of histories, and the entries of one pass.
-use Rattle.std.proofs.Common.{◌≡◌, ℕ, zero, suc, ◌+◌, ◌<◌, ◌≤◌, ◌≢◌, Bool, true, false, cond, ◌⊎◌, ⊎_elim, List, [], ◌∷◌, ◌++◌, length, All, slice_index_or, get_or, sym, refl, ap, ◌∙◌, subst, arith, eqb, eq-eqb, ne_eqb, append_assoc, append-nil, add-zero}
+use Rattle.std.proofs.Common.{◌≡◌, ℕ, zero, suc, ◌+◌, ◌<◌, ◌≤◌, ◌≢◌, Bool, true, false, cond, ◌⊎◌, ⊎_elim, inl, inr, List, [], ◌∷◌, ◌++◌, length, All, slice_index_or, get_or, sym, refl, ap, ◌∙◌, subst, arith, eqb, eq-eqb, ne_eqb, append_assoc, append-nil, add-zero}
 use mathlib.Core.Option.{some, some-injective, some-ne-none}
 use lib.ListN.{get_elem?}
 use Rattle.std.proofs.lemmas.List.Elements.{filter-append, All-append}
@@ -68,3 +68,16 @@ below_more n xs below = All-append (λ (x : ℕ). x < n + 1) xs (n ∷ []) (λ k
     one : (n : ℕ) → All (λ x. x < n + 1) (n ∷ [])
     one n zero d l = omega arith
     one n (suc k) d l = absurd (omega arith)
+
+-- a list with one element more behind
+pub at_behind : {A : Type 0} (l : List A) (x y : A) (i : ℕ) → get_elem? (l ++ x ∷ []) i ≡ some y → (get_elem? l i ≡ some y) ⊎ ((i ≡ length l) × (x ≡ y))
+at_behind [] x y zero e = inr (refl, some-injective x y e)
+at_behind [] x y (suc i) e = absurd (some-ne-none y (sym e))
+at_behind (z ∷ zs) x y zero e = inl e
+at_behind (z ∷ zs) x y (suc i) e = ⊎_elim inl (λ (h : (i ≡ length zs) × (x ≡ y)). inr (ap suc h.0, h.1)) (at_behind zs x y i e)
+
+-- an element of two lists, one behind the other
+pub at_either : {A : Type 0} (l k : List A) (x : A) (i : ℕ) → get_elem? (l ++ k) i ≡ some x → ((j : ℕ) × (get_elem? l j ≡ some x)) ⊎ ((j : ℕ) × (get_elem? k j ≡ some x))
+at_either [] k x i e = inr (i, e)
+at_either (z ∷ zs) k x zero e = inl (zero, e)
+at_either (z ∷ zs) k x (suc i) e = ⊎_elim (λ (h : (j : ℕ) × (get_elem? zs j ≡ some x)). inl (suc h.0, h.1)) inr (at_either zs k x i e)
