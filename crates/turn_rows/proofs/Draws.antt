@@ -90,8 +90,11 @@ module _ {S E T : Type 0} (m : Meaning S E T) (shared : ℕ) (start : List S) (t
           each_log = logs_after m shared start t s r id v c at live f;
           draws = subst (λ (z : ℕ). DrawsHold shared z r.made cs) (sym new) (draws_after s r id v x at live few refl up);
         },
-        (refl, λ one. let u = alone_is m shared start t s r id v at live one in let a = r.draws.alone u.1 in let e : length (r.logs 0).draws ≡ length v.own.draws = ap (λ (y : Log S). length y.draws) (ap r.logs (sym u.0) ∙ sym mine.2) in
-        let sh = ((r.each_view id v at).0 live).of_shared in omega arith),
+        (
+          refl,
+          λ one. let u = alone_is m shared start t s r id v at live one in let a = r.draws.alone u.1 in let e : length (r.logs 0).draws ≡ length v.own.draws = ap (λ (y : Log S). length y.draws) (ap r.logs (sym u.0) ∙ sym mine.2) in
+              let sh = ((r.each_view id v at).0 live).of_shared in omega arith,
+        ),
       )
 
   pub draws_at : (count : ℕ) → count ≡ length start → (slots id : ℕ) (me : Me S V) → me.0.live ≡ true → me.0.own.calls < 2 ^ 60 → Allows Rule slots id me (count * 8) (λ w. (w + 1) % 2 ^ 64) (drawn (step slots (count * 8) 1 0 none) me)

@@ -87,13 +87,16 @@ module _ {S E T : Type 0} (m : Meaning S E T) (shared : ℕ) (start : List S) (t
     ViewOk j d = (d.live ≡ true → IsLive shared start r.made r.logs keeper j d) × (d.live ≡ false → d.stage ≡ Idle)
 
     view_ok : (j : ℕ) (d : V) → j ≢ other → get_elem? s.views j ≡ some d → ViewOk j d
-    view_ok j d ne e = let old = r.each_view j d e in ((λ yes. let o = old.0 yes in record {
-      own = o.own;
-      itself = kept_on j j ne o.itself;
-      of_shared = o.of_shared;
-      of_start = o.of_start;
-      keeps = λ i c g. let q = o.keeps i c g in (q.0, kept_on c.number j ne q.1, q.2, q.3);
-    }), old.1)
+    view_ok j d ne e = let old = r.each_view j d e in (
+      (λ yes. let o = old.0 yes in record {
+        own = o.own;
+        itself = kept_on j j ne o.itself;
+        of_shared = o.of_shared;
+        of_start = o.of_start;
+        keeps = λ i c g. let q = o.keeps i c g in (q.0, kept_on c.number j ne q.1, q.2, q.3);
+      }),
+      old.1,
+    )
 
     views_ok : (j : ℕ) (d : V) → get_elem? views j ≡ some d → ViewOk j d
     views_ok j d e = ⊎_elim (λ (h : (j ≡ other) × (spent ≡ d)). subst (ViewOk j) h.1 ((λ yes. absurd (true≢false (sym yes))), λ _. refl))

@@ -80,7 +80,7 @@ module _ {S E T : Type 0} (m : Meaning S E T) where
     waits = λ k l u. let o = ok.waits k (omega arith) (omega arith) in let d = stay (row.waiter k) o.0 o.1 (subst (About r) (sym o.2) refl) in (d.0, d.1, d.2 ∙ o.2);
     served = λ l. let o = ok.served (omega arith) in let d = stay (row.waiter now) o.0 o.1 (about_turn hs r now x o.0.stage o.2) in
         subst (λ (z : ℕ). (v : View S) × (get_elem? vs' (row.waiter z) ≡ some v) × HasTurn m hs' r z x v.stage) (sym a)
-            (d.0, d.1, subst (HasTurn m hs' r now x) (sym d.2) (turn_stays hs hs' r now x h o.0.stage o.2));
+        (d.0, d.1, subst (HasTurn m hs' r now x) (sym d.2) (turn_stays hs hs' r now x h o.0.stage o.2));
     rests = λ e. let o = ok.rests (sym a ∙ (e ∙ b)) in (h ∙ o.0, o.1 ∙ sym a);
     tagged = ok.tagged;
     seen = λ p l. sees_stays (cs p) (cs' p) r x (same p).0 (same p).1 (ok.seen p l);

@@ -6,3 +6,4 @@ pub mod Draws
 pub mod Turns
 pub mod Splits
 pub mod Joins
+pub mod Ends

@@ -1,5 +1,5 @@
 -- Lists read by their places, the beginnings of histories, and the entries of one pass.
-use Rattle.std.proofs.Common.{◌≡◌, ℕ, zero, suc, ◌+◌, ◌<◌, ◌≤◌, ◌≢◌, Bool, true, false, cond, ◌⊎◌, ⊎_elim, inl, inr, List, [], ◌∷◌, ◌++◌, length, All, slice_index_or, get_or, sym, refl, ap, ◌∙◌, subst, arith, eqb, eq-eqb, ne_eqb, append_assoc, append-nil, add-zero}
+use Rattle.std.proofs.Common.{◌≡◌, ℕ, zero, suc, ◌+◌, ◌<◌, ◌≤◌, ◌≢◌, Bool, true, false, cond, ◌⊎◌, ⊎_elim, inl, inr, List, [], ◌∷◌, ◌++◌, length, All, slice_index_or, get_or, sym, refl, ap, ◌∙◌, subst, arith, eqb, eq-eqb, ne_eqb, append_assoc, append-nil, add-zero, add-one, take}
 use mathlib.Core.Option.{some, some-injective, some-ne-none}
 use lib.ListN.{get_elem?}
 use Rattle.std.proofs.lemmas.List.Elements.{filter-append, All-append}
@@ -81,3 +81,8 @@ pub at_either : {A : Type 0} (l k : List A) (x : A) (i : ℕ) → get_elem? (l +
 at_either [] k x i e = inr (i, e)
 at_either (z ∷ zs) k x zero e = inl (zero, e)
 at_either (z ∷ zs) k x (suc i) e = ⊎_elim (λ (h : (j : ℕ) × (get_elem? zs j ≡ some x)). inl (suc h.0, h.1)) inr (at_either zs k x i e)
+
+pub take_at_place : {A : Type 0} (l : List A) (i : ℕ) (x : A) → get_elem? l i ≡ some x → take (i + 1) l ≡ take i l ++ x ∷ []
+take_at_place [] i x e = absurd (some-ne-none x (sym e))
+take_at_place (y ∷ ys) zero x e = ap (λ z. z ∷ []) (some-injective y x e)
+take_at_place (y ∷ ys) (suc i) x e = rw add-one (ap (λ z. y ∷ z) (rw add-one at (take_at_place ys i x e)))

@@ -84,9 +84,12 @@ module _ {S E T : Type 0} (m : Meaning S E T) (shared : ℕ) (start : List S) (t
           (d.0, d.1, subst (HasTurn m s.homes b (serving s.words b) x) (sym d.2) o.2);
       rests = ok.rests;
       tagged = ok.tagged;
-      seen = each (λ _ c. Sees m c b x) (λ h. h) (let y = inside_at start b l in let none = (r.fresh b y.0 y.1).0 in
-          (y.0, ap (λ (z : List S). get_elem? z b) me.of_start ∙ y.1, subst (StartsWith (m.entries x)) (sym none) (m.entries x, refl),
-          ok.no_other v.own.made (let e = made_is in let g : made ≤ v.own.made = omega arith in g) ∙ ap (made_by m.by v.own.made) (sym none))) ok.seen;
+      seen = each (λ _ c. Sees m c b x) (λ h. h) (let y = inside_at start b l in let none = (r.fresh b y.0 y.1).0 in (
+        y.0,
+        ap (λ (z : List S). get_elem? z b) me.of_start ∙ y.1,
+        subst (StartsWith (m.entries x)) (sym none) (m.entries x, refl),
+        ok.no_other v.own.made (let e = made_is in let g : made ≤ v.own.made = omega arith in g) ∙ ap (made_by m.by v.own.made) (sym none),
+      )) ok.seen;
       alone = λ e. absurd (let p = r.some_pass in omega arith);
       no_other = λ p g. ok.no_other p (let g' : made ≤ p = omega arith in g');
     }

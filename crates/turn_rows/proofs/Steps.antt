@@ -233,7 +233,7 @@ module _ {S E T : Type 0} (m : Meaning S E T) (shared : ℕ) (start : List S) (t
               waits = λ j lo u. later j (omega arith) (omega arith);
               served = λ l. let o = later (k + 1) (omega arith) (omega arith) in
                   subst (λ (z : ℕ). (d : V) × (get_elem? (set s.views id w) ((r.rows a).waiter z) ≡ some d) × HasTurn m s.homes a z x d.stage) (sym new)
-                      (o.0, o.1, subst (HasTurn m s.homes a (k + 1) x) (sym o.2) (refl, refl, subst (λ (z : ℕ). AtHome m s.homes a (z + 1) x) (sym e) turn.2));
+                  (o.0, o.1, subst (HasTurn m s.homes a (k + 1) x) (sym o.2) (refl, refl, subst (λ (z : ℕ). AtHome m s.homes a (z + 1) x) (sym e) turn.2));
               rests = λ g. subst (λ (z : ℕ). AtHome m s.homes a z x) (sym new) (subst (λ (z : ℕ). AtHome m s.homes a (z + 1) x) (sym e) turn.2);
               tagged = ok.tagged;
               seen = still_seen s r id v a near at live;

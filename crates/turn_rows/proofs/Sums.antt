@@ -31,7 +31,7 @@ module _ {A : Type 0} (h : A → ℕ) where
   sum_after zero i f x l = absurd (omega arith)
   sum_after (suc n) i f x l = dite (ℕ_discrete n i)
       (λ e. let rest : sum_below n (λ p. h (put f i x p)) ≡ sum_below n (λ p. h (f p)) = sum_same n (λ p. h (put f i x p)) (λ p. h (f p)) (λ p k. ap h (put_else f i x p (λ q. omega arith))) in
-          let last : h (put f i x n) ≡ h x = ap h (ap (put f i x) e ∙ put_here f i x) in let at : h (f n) ≡ h (f i) = ap (λ (z : ℕ). h (f z)) e in omega arith)
+      let last : h (put f i x n) ≡ h x = ap h (ap (put f i x) e ∙ put_here f i x) in let at : h (f n) ≡ h (f i) = ap (λ (z : ℕ). h (f z)) e in omega arith)
       (λ ne. let rest = sum_after n i f x (omega arith) in let last : h (put f i x n) ≡ h (f n) = ap h (put_else f i x n ne) in omega arith)
 
   -- a value is added behind

@@ -1,5 +1,6 @@
 //! The end, where the states come out.
-ghost use Rattle.std.specs.Prelude.{◌≡◌, ◌<◌, length};
+ghost use Rattle.std.specs.Prelude.{◌≡◌, ◌≤◌, [], length, vec_capacity};
+ghost use Rattle.std.specs.Slots.{slots_items, slots_len, IsFull};
 ghost use Rattle.turn_rows.specs.Rule.{meaning};
 ghost use Rattle.turn_rows.specs.Passes.{IsPassOf, logs_of, HasAll, row_count, shared_count, tag_state, AllLast, AllDrawn};
 
@@ -33,7 +34,14 @@ impl<S: Held> Rows<S> {
     }
 }
 
-fn take_out<S>(mut closed: Closed<S, Global>, mut states: Vec<S>, count: usize) -> Vec<S> {
+/// The values of all slots, in order, in room that is there already.
+fn take_out<S>(mut closed: Closed<S, Global>, mut states: Vec<S>, count: usize) -> Vec<S>
+    requires full { IsFull closed.slots }
+    requires count { count ≡ slots_len closed.slots }
+    requires empty { states.items ≡ [] }
+    requires room { count ≤ vec_capacity states }
+    ensures { result.items ≡ slots_items closed.slots }
+{
     for row in 0..count {
         states.push_reserved(closed.take(row));
     }

@@ -1,5 +1,5 @@
 //! How rows are made, and how their passes are made and joined.
-ghost use Rattle.std.specs.Prelude.{◌≡◌, ℕ, ◌+◌, ◌<◌, ◌≤◌, [], ◌∷◌, ◌++◌, length, IfOk};
+ghost use Rattle.std.specs.Prelude.{◌≡◌, ℕ, ◌+◌, ◌*◌, ◌<◌, ◌≤◌, [], ◌∷◌, ◌++◌, length, slice_index, IfOk};
 ghost use mathlib.Core.Option.{some};
 ghost use lib.ListN.{get_elem?};
 ghost use Rattle.turn_rows.specs.Rule.{meaning};
@@ -38,8 +38,7 @@ impl<S: Held> Rows<S> {
         ensures fresh { IfOk result (λ r. IsFresh (meaning S.entries S.by S.turns S.tag S.mark) (log_of r.1)) }
     {
         let count = states.len();
-        let mut words = Vec::from_elem(alloc, 0u64, count * WORDS_A_ROW + 1)?;
-        words.as_mut_slice()[count * WORDS_A_ROW] = u64::from(shared);
+        let words = first_words(alloc, count, shared)?;
         let spare = Vec::with_capacity(alloc, count)?;
         let start = Start {
             shared: u64::from(shared),
@@ -99,6 +98,18 @@ impl<S: Held> Rows<S> {
         } = other;
         self.table.shared.join_seat::<Keep>(&mut pass.seat, seat);
     }
+}
+
+/// Each row serves its first ticket, and the draws begin at `shared`.
+fn first_words(alloc: Global, count: usize, shared: u32) -> Result<Vec<u64>, AllocError>
+    requires { count ≤ 4096 }
+    ensures wide { IfOk result (λ w. length w.items ≡ count * 8 + 1) }
+    ensures zeros { IfOk result (λ w. (i : ℕ) → i < count * 8 → slice_index w.items i ≡ 0) }
+    ensures last { IfOk result (λ w. slice_index w.items (count * 8) ≡ shared) }
+{
+    let mut words = Vec::from_elem(alloc, 0u64, count * WORDS_A_ROW + 1)?;
+    words.as_mut_slice()[count * WORDS_A_ROW] = u64::from(shared);
+    Ok(words)
 }
 
 impl<S> RowPass<S> {
