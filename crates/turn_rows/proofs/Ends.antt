@@ -180,3 +180,11 @@ module _ {S E T : Type 0} (m : Meaning S E T) where
     -- what a table's end says, with a pass that keeps all logs
     pub closes : (id : ℕ) (v : V) (one : S) (words : List ℕ) (xs : List S) → v.live ≡ true → v.stage ≡ Idle → HasAll (v.own ∷ v.kept) → t ≡ m.tag one → Final (Seen Rule id v) words xs → AllLast m one (v.own ∷ v.kept) xs × AllDrawn shared (v.own ∷ v.kept)
     closes id v one words xs live idle all tag end = let s = end.0 in let r = end.1.0 in (all_last s r id v end.1.1 live idle all one tag xs end.3 end.4, all_drawn s r id v end.1.1 live idle all)
+
+  -- the same, of states and words that only equations tell
+  pub starts : (shared shared' count : ℕ) (start states : List S) (words words' : List ℕ) (one : S) → start ≡ states → words ≡ words' → shared ≡ shared' → count ≡ length states → get_elem? states 0 ≡ some one → length states ≤ 4096 → shared' ≤ length states
+      → length words' ≡ count * 8 + 1 → ((i : ℕ) → i < count * 8 → get_or words' i 0 ≡ 0) → get_or words' (count * 8) 0 ≡ shared' → AllNew m states
+      → ((i j : ℕ) (x y : S) → get_elem? states i ≡ some x → get_elem? states j ≡ some y → m.tag x ≡ m.tag y) → RowsHold m shared start (m.tag one) (opening words states (first_view shared start))
+  starts shared shared' count start states words words' one start_is words_is shared_is count_is head small few wide zeros last new tags =
+      subst (λ (z : List S × List ℕ × ℕ). RowsHold m z.2 z.0 (m.tag one) (opening z.1 states (first_view z.2 z.0))) (λ i. (sym start_is i, sym words_is i, sym shared_is i))
+      (opens shared' states (m.tag one) words' one head small few (omega arith) (λ i l. zeros i (omega arith)) (ap (λ (n : ℕ). get_or words' (n * 8) 0) (sym count_is) ∙ last) new (λ i y e. tags i 0 y one e head))
