@@ -52,6 +52,10 @@ module _ {S : Type 0} where
   abbrev pub IsPassOf : {Q : Type 0} → Ruled S Q → RowPass S → Type 0
   IsPassOf rows p = IsSeatOf rows p.seat
 
+  -- it is the pass with this number, and keeps no other's log
+  abbrev pub IsAlone : {Q : Type 0} → Ruled S Q → ℕ → RowPass S → Type 0
+  IsAlone rows n p = IsPassOf rows p × ((log_of p).number ≡ n) × (kept_of p ≡ [])
+
   -- how many rows there are
   abbrev pub row_count : {Q : Type 0} → Ruled S Q → ℕ
   row_count rows = rows.count
