@@ -13,9 +13,9 @@ use Rattle.turn_rows.specs.declared.view.Stage.TheVariants.{Idle}
 use Rattle.turn_rows.specs.Lists.{StartsWith, made_by, sum_below, times, Rises, DrawnOnce}
 use Rattle.turn_rows.specs.Rule.{Meaning, Row, log, serving, next_ticket, InTurn, HasTicket, Sees, RowHolds, IsLog, IsLive, DrawsHold, RowsHold}
 use Rattle.turn_rows.specs.Plays.{first_view}
-use Rattle.turn_rows.specs.Passes.{log_numbered, HasLog, HasAll, passes_made, entries_at, mark_at, seen_in, AllNew, IsFresh, IsLast, AllLast, AllDrawn}
+use Rattle.turn_rows.specs.Passes.{log_numbered, HasLog, HasAll, passes_made, entries_at, mark_at, seen_in, AllNew, HaveOneTag, IsNew, IsFresh, IsLast, AllLast, AllDrawn}
 use Rattle.turn_rows.proofs.Sums.{sum_same}
-use Rattle.turn_rows.proofs.Lists.{same_at, at_inside, begins_itself}
+use Rattle.turn_rows.proofs.Lists.{same_at, at_inside, begins_itself, all_at, at_or}
 use Rattle.turn_rows.proofs.Keeps.{About, about_turn, my_log}
 
 not_false : (b : Bool) → (b ≡ false → ⊥) → b ≡ true
@@ -40,15 +40,6 @@ module _ {S E T : Type 0} (m : Meaning S E T) where
     no_calls = refl;
   }
 
-  -- the element at i, or another past the end
-  abbrev at_or : List S → S → ℕ → S
-  at_or xs d i = get_or xs i d
-
-  is_at : (xs : List S) (d : S) (i : ℕ) → i < length xs → get_elem? xs i ≡ some (at_or xs d i)
-  is_at [] d i h = absurd (omega arith)
-  is_at (x ∷ xs) d zero h = refl
-  is_at (x ∷ xs) d (suc i) h = is_at xs d i (omega arith)
-
   module _ (shared : ℕ) (start : List S) (t : T) where
     abbrev V : Type 0
     V = View S
@@ -63,10 +54,10 @@ module _ {S E T : Type 0} (m : Meaning S E T) where
       begin = log 0 1 0 start []
 
       abbrev rows : ℕ → Row S
-      rows r = record { waiter = λ _. 0; state = at_or start one r }
+      rows r = record { waiter = λ _. 0; state = get_or start r one }
 
       row_opens : (r : ℕ) → r < length start → RowHolds m t words (map some start) (first_view shared start ∷ []) 1 (λ _. begin) (rows r) r
-      row_opens r l = let x : S = at_or start one r in let at = is_at start one r l in let a = zeros (r * 8) (omega arith) in let b = zeros (r * 8 + 1) (omega arith) in let is = new r x at in record {
+      row_opens r l = let x : S = get_or start r one in let at = at_or start r one l in let a = zeros (r * 8) (omega arith) in let b = zeros (r * 8 + 1) (omega arith) in let is = all_at (IsNew m) start r x new at in record {
         behind = omega arith;
         bound = omega arith;
         waits = λ k lo hi. absurd (omega arith);
@@ -95,7 +86,7 @@ module _ {S E T : Type 0} (m : Meaning S E T) where
         some_pass = omega arith;
         few_rows = few;
         small = small;
-        fresh = λ i y e. let o = new i y e in (o.0, o.2);
+        fresh = λ i y e. let o = all_at (IsNew m) start i y new e in (o.0, o.2);
         each_row = row_opens;
         each_stage = λ j v e. subst (λ (z : V). InTurn (HasTicket start rows words j) z.stage) (view_is j v e).1 tt;
         each_view = λ j v e. let o = view_is j v e in subst (λ (z : ℕ × V). (z.1.live ≡ true → IsLive shared start 1 (λ _. begin) (λ p. p) z.0 z.1) × (z.1.live ≡ false → z.1.stage ≡ Idle)) (λ i. (sym o.0 i, o.1 i))
@@ -174,8 +165,8 @@ module _ {S E T : Type 0} (m : Meaning S E T) where
           )
 
       pub all_last : (one : S) → t ≡ m.tag one → (xs : List S) → length s.homes ≡ length xs → ((k : ℕ) (y : S) → get_elem? s.homes k ≡ some (some y) → get_elem? xs k ≡ some y) → AllLast m one logs xs
-      all_last one tag xs long lies a x e = let near : a < length start = subst (λ (n : ℕ). a < n) (sym long ∙ r.slots) (at_inside xs a x e) in let home = ((r.each_row a near).rests (rests a near)).0 in
-          subst (IsLast m one logs a) (same_at xs a (r.rows a).state x (lies a (r.rows a).state home) e) (last one tag a near)
+      all_last one tag xs long lies a d l = let near : a < length start = subst (λ (n : ℕ). a < n) (sym long ∙ r.slots) l in let home = ((r.each_row a near).rests (rests a near)).0 in
+          subst (IsLast m one logs a) (same_at xs a (r.rows a).state (get_or xs a d) (lies a (r.rows a).state home) (at_or xs a d l)) (last one tag a near)
 
     -- what a table's end says, with a pass that keeps all logs
     pub closes : (id : ℕ) (v : V) (one : S) (words : List ℕ) (xs : List S) → v.live ≡ true → v.stage ≡ Idle → HasAll (v.own ∷ v.kept) → t ≡ m.tag one → Final (Seen Rule id v) words xs → AllLast m one (v.own ∷ v.kept) xs × AllDrawn shared (v.own ∷ v.kept)
@@ -184,7 +175,7 @@ module _ {S E T : Type 0} (m : Meaning S E T) where
   -- the same, of states and words that only equations tell
   pub starts : (shared shared' count : ℕ) (start states : List S) (words words' : List ℕ) (one : S) → start ≡ states → words ≡ words' → shared ≡ shared' → count ≡ length states → get_elem? states 0 ≡ some one → length states ≤ 4096 → shared' ≤ length states
       → length words' ≡ count * 8 + 1 → ((i : ℕ) → i < count * 8 → get_or words' i 0 ≡ 0) → get_or words' (count * 8) 0 ≡ shared' → AllNew m states
-      → ((i j : ℕ) (x y : S) → get_elem? states i ≡ some x → get_elem? states j ≡ some y → m.tag x ≡ m.tag y) → RowsHold m shared start (m.tag one) (opening words states (first_view shared start))
+      → HaveOneTag m states → RowsHold m shared start (m.tag one) (opening words states (first_view shared start))
   starts shared shared' count start states words words' one start_is words_is shared_is count_is head small few wide zeros last new tags =
       subst (λ (z : List S × List ℕ × ℕ). RowsHold m z.2 z.0 (m.tag one) (opening z.1 states (first_view z.2 z.0))) (λ i. (sym start_is i, sym words_is i, sym shared_is i))
-      (opens shared' states (m.tag one) words' one head small few (omega arith) (λ i l. zeros i (omega arith)) (ap (λ (n : ℕ). get_or words' (n * 8) 0) (sym count_is) ∙ last) new (λ i y e. tags i 0 y one e head))
+      (opens shared' states (m.tag one) words' one head small few (omega arith) (λ i l. zeros i (omega arith)) (ap (λ (n : ℕ). get_or words' (n * 8) 0) (sym count_is) ∙ last) new (λ i y e. all_at (λ (z : S). m.tag z ≡ m.tag (get_or states 0 one)) states i y (tags one) e ∙ ap m.tag (same_at states 0 (get_or states 0 one) one (at_or states 0 one (at_inside states 0 one head)) head)))

@@ -86,3 +86,15 @@ pub take_at_place : {A : Type 0} (l : List A) (i : ℕ) (x : A) → get_elem? l 
 take_at_place [] i x e = absurd (some-ne-none x (sym e))
 take_at_place (y ∷ ys) zero x e = ap (λ z. z ∷ []) (some-injective y x e)
 take_at_place (y ∷ ys) (suc i) x e = rw add-one (ap (λ z. y ∷ z) (rw add-one at (take_at_place ys i x e)))
+
+-- what holds of each element holds of the one at a place
+pub all_at : {A : Type 0} (P : A → Type 0) (l : List A) (i : ℕ) (x : A) → All P l → get_elem? l i ≡ some x → P x
+all_at P [] i x h e = absurd (some-ne-none x (sym e))
+all_at P (y ∷ ys) zero x h e = subst P (some-injective y x e) (h 0 x (omega arith))
+all_at P (y ∷ ys) (suc i) x h e = all_at P ys i x (λ k d l. h (suc k) d (omega arith)) e
+
+-- an element within the list, where another would stand past its end
+pub at_or : {A : Type 0} (l : List A) (i : ℕ) (d : A) → i < length l → get_elem? l i ≡ some (get_or l i d)
+at_or [] i d h = absurd (omega arith)
+at_or (x ∷ xs) zero d h = refl
+at_or (x ∷ xs) (suc i) d h = at_or xs i d (omega arith)

@@ -1,5 +1,5 @@
 -- What the clauses say of rows, of their passes, of a turn and of the end.
-use Rattle.std.specs.Prelude.{◌≡◌, ◌≢◌, ℕ, ◌+◌, ◌<◌, ◌≤◌, ◌==◌, List, [], ◌∷◌, cond}
+use Rattle.std.specs.Prelude.{◌≡◌, ◌≢◌, ℕ, ◌+◌, ◌<◌, ◌≤◌, ◌==◌, List, [], ◌∷◌, cond, length, slice_index_or, All}
 use mathlib.Core.Option.{Option, some, none}
 use lib.ListN.{get_elem?}
 use Rattle.turn_rows.specs.declared.rows.Ruled.{Ruled}
@@ -97,11 +97,15 @@ module _ {S E T : Type 0} (m : Meaning S E T) where
 
   -- states at the start
   abbrev pub AllNew : List S → Type 0
-  AllNew states = (i : ℕ) (y : S) → get_elem? states i ≡ some y → IsNew y
+  AllNew states = All IsNew states
 
   -- states that have the tag of this one
   abbrev pub AllTagged : S → List S → Type 0
-  AllTagged one states = (i : ℕ) (y : S) → get_elem? states i ≡ some y → m.tag y ≡ m.tag one
+  AllTagged one states = All (λ y. m.tag y ≡ m.tag one) states
+
+  -- states that have the tag of the first of them
+  abbrev pub HaveOneTag : List S → Type 0
+  HaveOneTag states = (d : S) → AllTagged (slice_index_or states 0 d) states
 
   -- the log of a pass that has seen, made and drawn nothing
   pub record IsFresh (c : Log S) : Type 0 where
@@ -136,7 +140,7 @@ module _ {S E T : Type 0} (m : Meaning S E T) where
 
   -- each row's state at the end, in order
   abbrev pub AllLast : S → List (Log S) → List S → Type 0
-  AllLast one cs states = (r : ℕ) (x : S) → get_elem? states r ≡ some x → IsLast one cs r x
+  AllLast one cs states = (r : ℕ) (d : S) → r < length states → IsLast one cs r (slice_index_or states r d)
 
 -- the passes drew the numbers from the shared count up to some last one, each once, and no other
 abbrev pub AllDrawn : {S : Type 0} → ℕ → List (Log S) → Type 0

@@ -1,10 +1,8 @@
 //! How rows are made, and how their passes are made and joined.
 ghost use Rattle.std.specs.Prelude.{◌≡◌, ℕ, ◌+◌, ◌*◌, ◌<◌, ◌≤◌, [], ◌∷◌, ◌++◌, length, slice_index, IfOk};
-ghost use mathlib.Core.Option.{some};
-ghost use lib.ListN.{get_elem?};
 ghost use Rattle.turn_rows.specs.Rule.{meaning};
 ghost use Rattle.turn_rows.specs.Plays.{with_pass};
-ghost use Rattle.turn_rows.specs.Passes.{IsPassOf, log_of, logs_of, kept_of, row_count, shared_count, tag_state, AllNew, AllTagged, IsFresh};
+ghost use Rattle.turn_rows.specs.Passes.{IsPassOf, log_of, logs_of, kept_of, row_count, shared_count, tag_state, AllNew, AllTagged, HaveOneTag, IsFresh};
 
 use crate::held::Held;
 use crate::plays::{Cut, Keep, Recall};
@@ -29,7 +27,7 @@ impl<S: Held> Rows<S> {
         requires rows { length states.items ≤ 4096 }
         requires shared { shared ≤ length states.items }
         requires new { AllNew (meaning S.entries S.by S.turns S.tag S.mark) states.items }
-        requires tag { (i j : ℕ) (x y : S) → get_elem? states.items i ≡ some x → get_elem? states.items j ≡ some y → S.tag x ≡ S.tag y }
+        requires tag { HaveOneTag (meaning S.entries S.by S.turns S.tag S.mark) states.items }
         ensures rows { IfOk result (λ r. row_count r.0 ≡ length states.items) }
         ensures shared { IfOk result (λ r. shared_count r.0 ≡ shared) }
         ensures tag { IfOk result (λ r. AllTagged (meaning S.entries S.by S.turns S.tag S.mark) (tag_state r.0) states.items) }

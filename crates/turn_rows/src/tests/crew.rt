@@ -103,10 +103,14 @@ pub(super) fn sign_together<R: Threads + Wait + Sync>(
     let room = passes as usize * turns as usize;
     let (rows, mut first) = Rows::new(alloc, new_tallies(alloc, 1, room)?, 0)?;
     let others = split_others(alloc, &rows, &mut first, passes as usize - 1)?;
+    let shared = &rows;
     let (others, mut first) = thread::join(
         rt,
-        || beside(rt, &rows, others, turns),
-        || in_front(rt, &rows, first, turns),
+        move || -> Vec<RowPass<Tally>>
+            requires { All (λ p. IsPassOf shared.now p × ((log_of p).calls ≡ 0)) others.items × (0 < row_count shared.now) }
+            ensures { (length result.items ≡ length others.items) × ((k : ℕ) (d : RowPass Tally) → k < length others.items → IsPassOf shared.entry.now (slice_index_or result.items k d) × IsSamePass (slice_index_or others.items k d) (slice_index_or result.items k d)) }
+        { beside(rt, shared, others, turns) },
+        move || in_front(rt, shared, first, turns),
     );
     join_others(&rows, &mut first, others);
     Ok(rows.close(first))

@@ -3,7 +3,8 @@ use lib.ListN.{get_elem?}
 use mathlib.Core.Option.{some}
 use Rattle.atomic_table.proofs.Lists.{at_index}
 use Rattle.turn_rows.specs.Rule.{meaning}
-use Rattle.turn_rows.specs.Passes.{IsFresh}
+use Rattle.turn_rows.specs.Passes.{IsNew, IsFresh}
+use Rattle.turn_rows.proofs.Lists.{all_at}
 use Rattle.turn_rows.proofs.Ends.{starts, begins_fresh}
 use Rattle.turn_rows.proofs.passes.Rows+S.new.Goals as goal
 
@@ -14,4 +15,7 @@ new-requires g c = let held = g.S.Held in let states = c.args.states.items in le
 
 pub returns-clause-fresh : goal.returns-clause-fresh
 returns-clause-fresh g c = let held = g.S.Held in let m = meaning held.entries held.by held.turns held.tag held.mark in
-    subst (IsFresh m) (sym (ap (λ z. z.0.own) c.in-Ok.ensures.ok.4)) (begins_fresh m c.of-2.result.value.items 0 1 (λ i y e. let new = c.requires.new i y (ap (λ z. get_elem? z.items i) (sym c.of-2.ensures) ∙ e) in (new.0, new.2)))
+    subst (IsFresh m) (sym (ap (λ z. z.0.own) c.in-Ok.ensures.ok.4)) (begins_fresh m c.of-2.result.value.items 0 1 (λ i y e. let new = all_at (IsNew m) c.args.states.items i y c.requires.new (ap (λ z. get_elem? z.items i) (sym c.of-2.ensures) ∙ e) in (new.0, new.2)))
+
+pub returns-clause-tag : goal.returns-clause-tag
+returns-clause-tag g c k d l = c.requires.tag c.index.result.now k d l ∙ ap g.S.Held.tag (sym c.index.ensures ∙ (sym c.of.ensures ∙ sym (ap (λ z. z.one.value) c.in-Ok.ensures.ok.5)))
