@@ -1,5 +1,5 @@
 -- A draw keeps the rule.
-use Rattle.std.proofs.Common.{◌≡◌, ℕ, ◌+◌, ◌*◌, ◌^◌, ◌%◌, ◌<◌, ◌≤◌, ◌≢◌, ◌⊎◌, ⊎_elim, inl, inr, true, List, [], ◌∷◌, ◌++◌, length, All, get_or, set, sym, refl, ap, ◌∙◌, subst, arith, length-append, length-set, get_or-set_same, get_or-set_other, mod-eq_of_lt, le_refl}
+use Rattle.std.proofs.Common.{◌≡◌, ℕ, ◌+◌, ◌*◌, ◌^◌, ◌%◌, ◌<◌, ◌≤◌, ◌≢◌, ⊎_elim, inl, inr, true, List, [], ◌∷◌, ◌++◌, length, All, get_or, set, sym, refl, ap, ◌∙◌, subst, arith, length-append, length-set, get_or-set_same, get_or-set_other, mod-eq_of_lt, le_refl}
 use mathlib.Core.Logic.{dite}
 use mathlib.Core.Option.{some, none}
 use native.Mathlib.Decide.{ℕ_discrete}
@@ -8,10 +8,10 @@ use Rattle.atomic_table.specs.Table.{State, Me, step, keeps, Allows}
 use Rattle.atomic_table.proofs.Lists.{set_here, set_else}
 use Rattle.turn_rows.specs.declared.view.View.{View}
 use Rattle.turn_rows.specs.declared.view.Log.{Log}
-use Rattle.turn_rows.specs.Lists.{put, sum_below, times, Rises, DrawnOnce}
-use Rattle.turn_rows.specs.Rule.{Meaning, serving, next_ticket, InTurn, HasTicket, DrawsHold, RowsHold}
+use Rattle.turn_rows.specs.Lists.{put, sum_below, times, Rises}
+use Rattle.turn_rows.specs.Rule.{Meaning, HasTicket, DrawsHold, RowsHold}
 use Rattle.turn_rows.specs.Plays.{moved, with_draw, drawn}
-use Rattle.turn_rows.proofs.Sums.{at_put, put_here, sum_after}
+use Rattle.turn_rows.proofs.Sums.{at_put, sum_after}
 use Rattle.turn_rows.proofs.Lists.{same_at, at_inside, times_here, times_else, rises_more, below_more}
 use Rattle.turn_rows.proofs.Keeps.{Follows, StagesStay, in_turn, turns_after, row_stays, views_after, my_log, logs_after, calls_grow, logs_stay}
 use Rattle.turn_rows.proofs.Steps.{few_calls, alone_is}

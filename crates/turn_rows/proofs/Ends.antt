@@ -1,5 +1,5 @@
 -- The rule at the start, what a new pass knows, and what the rule says at the end.
-use Rattle.std.proofs.Common.{◌≡◌, ℕ, zero, suc, ◌+◌, ◌*◌, ◌^◌, ◌<◌, ◌≤◌, ◌≢◌, ◌⊎◌, ⊎_elim, inl, inr, Bool, true, false, cond, List, [], ◌∷◌, map, length, get_or, sym, refl, ap, ◌∙◌, subst, arith, eqb, eq-eqb, ne_eqb, le_refl}
+use Rattle.std.proofs.Common.{◌≡◌, ℕ, zero, suc, ◌+◌, ◌*◌, ◌<◌, ◌≤◌, Bool, true, false, cond, List, [], ◌∷◌, map, length, get_or, sym, refl, ap, ◌∙◌, subst, arith, eq-eqb, ne_eqb, le_refl}
 use mathlib.Core.Logic.{dite}
 use mathlib.Core.Option.{Option, some, none, some-injective, some-ne-none}
 use native.Mathlib.Decide.{ℕ_discrete}
@@ -11,9 +11,9 @@ use Rattle.turn_rows.specs.declared.view.View.{View}
 use Rattle.turn_rows.specs.declared.view.Log.{Log}
 use Rattle.turn_rows.specs.declared.view.Stage.TheVariants.{Idle}
 use Rattle.turn_rows.specs.Lists.{StartsWith, made_by, sum_below, times, Rises, DrawnOnce}
-use Rattle.turn_rows.specs.Rule.{Meaning, Row, log, serving, next_ticket, InTurn, HasTicket, Sees, RowHolds, IsLog, IsLive, DrawsHold, RowsHold}
+use Rattle.turn_rows.specs.Rule.{Meaning, Row, log, serving, next_ticket, InTurn, HasTicket, Sees, RowHolds, IsLive, DrawsHold, RowsHold}
 use Rattle.turn_rows.specs.Plays.{first_view}
-use Rattle.turn_rows.specs.Passes.{log_numbered, HasLog, HasAll, passes_made, entries_at, mark_at, seen_in, AllNew, HaveOneTag, IsNew, IsFresh, IsLast, AllLast, AllDrawn}
+use Rattle.turn_rows.specs.Passes.{log_numbered, HasLog, HasAll, passes_made, entries_at, mark_at, AllNew, HaveOneTag, IsNew, IsFresh, IsLast, AllLast, AllDrawn}
 use Rattle.turn_rows.proofs.Sums.{sum_same}
 use Rattle.turn_rows.proofs.Lists.{same_at, at_inside, begins_itself, all_at, at_or}
 use Rattle.turn_rows.proofs.Keeps.{About, about_turn, my_log}

@@ -1,5 +1,5 @@
 -- A pass that is joined keeps the rule.
-use Rattle.std.proofs.Common.{◌≡◌, ℕ, zero, suc, ◌+◌, ◌<◌, ◌≢◌, ◌⊎◌, ⊎_elim, true, false, true≢false, List, [], ◌∷◌, ◌++◌, set, sym, refl, ap, ◌∙◌, subst, arith, length-set, le_refl}
+use Rattle.std.proofs.Common.{◌≡◌, ℕ, zero, suc, ◌<◌, ◌≢◌, ⊎_elim, true, false, true≢false, List, ◌∷◌, set, sym, refl, ap, ◌∙◌, subst, length-set, le_refl}
 use mathlib.Core.Logic.{dite}
 use mathlib.Core.Option.{some, some-injective}
 use native.Mathlib.Decide.{ℕ_discrete}
@@ -13,7 +13,7 @@ use Rattle.turn_rows.specs.Lists.{put}
 use Rattle.turn_rows.specs.Rule.{Meaning, HasTicket, IsLive, RowsHold}
 use Rattle.turn_rows.specs.Plays.{joined, spent}
 use Rattle.turn_rows.proofs.Sums.{put_here, put_else}
-use Rattle.turn_rows.proofs.Lists.{same_at, at_inside, at_either}
+use Rattle.turn_rows.proofs.Lists.{same_at, at_either}
 use Rattle.turn_rows.proofs.Keeps.{About, StagesStay, turns_after, row_stays, my_log}
 use Rattle.turn_rows.proofs.Draws.{stage_stays}
 

@@ -1,21 +1,18 @@
 -- A pass that is made keeps the rule.
-use Rattle.std.proofs.Common.{◌≡◌, ℕ, zero, suc, ◌+◌, ◌*◌, ◌^◌, ◌<◌, ◌≤◌, ◌≢◌, ◌⊎◌, ⊎_elim, inl, inr, true, false, true≢false, List, [], ◌∷◌, ◌++◌, length, All, get_or, set, sym, refl, ap, ◌∙◌, subst, arith, length-append, length-set, le_refl}
-use mathlib.Core.Logic.{dite}
-use mathlib.Core.Option.{some, none, some-ne-none}
-use native.Mathlib.Decide.{ℕ_discrete}
+use Rattle.std.proofs.Common.{◌≡◌, ℕ, suc, ◌*◌, ◌<◌, ◌≤◌, ◌≢◌, ⊎_elim, true, false, true≢false, List, [], ◌∷◌, ◌++◌, length, All, get_or, set, sym, refl, ap, ◌∙◌, subst, arith, length-append, length-set}
+use mathlib.Core.Option.{some, some-ne-none}
 use lib.ListN.{get_elem?}
-use Rattle.atomic_table.specs.Table.{State, Splits, Joins}
-use Rattle.atomic_table.proofs.Lists.{at_set, set_here, set_else, at_longer}
+use Rattle.atomic_table.specs.Table.{State, Splits}
+use Rattle.atomic_table.proofs.Lists.{at_set, at_longer}
 use Rattle.turn_rows.specs.declared.view.View.{View}
 use Rattle.turn_rows.specs.declared.view.Log.{Log}
-use Rattle.turn_rows.specs.declared.view.Stage.{Stage}
-use Rattle.turn_rows.specs.declared.view.Stage.TheVariants.{Idle, Waiting}
+use Rattle.turn_rows.specs.declared.view.Stage.TheVariants.{Idle}
 use Rattle.turn_rows.specs.Lists.{put, sum_below, StartsWith, made_by, times, Rises}
-use Rattle.turn_rows.specs.Rule.{Meaning, log, serving, next_ticket, InTurn, HasTicket, IsLog, IsLive, DrawsHold, HasTurn, Sees, RowHolds, RowsHold}
-use Rattle.turn_rows.specs.Plays.{splitter, newcomer, joined, spent, with_pass}
-use Rattle.turn_rows.proofs.Sums.{at_put, put_here, put_else, sum_same, sum_after, sum_behind}
-use Rattle.turn_rows.proofs.Lists.{same_at, at_inside, inside_at, at_behind, at_either}
-use Rattle.turn_rows.proofs.Keeps.{About, StagesStay, turns_after, about_turn, sees_stays, row_stays, my_log}
+use Rattle.turn_rows.specs.Rule.{Meaning, log, serving, InTurn, HasTicket, IsLog, IsLive, DrawsHold, HasTurn, Sees, RowHolds, RowsHold}
+use Rattle.turn_rows.specs.Plays.{splitter, newcomer, with_pass}
+use Rattle.turn_rows.proofs.Sums.{at_put, put_here, put_else, sum_after, sum_behind}
+use Rattle.turn_rows.proofs.Lists.{at_inside, inside_at, at_behind}
+use Rattle.turn_rows.proofs.Keeps.{About, StagesStay, turns_after, about_turn, my_log}
 use Rattle.turn_rows.proofs.Draws.{stage_stays}
 
 module _ {S E T : Type 0} (m : Meaning S E T) (shared : ℕ) (start : List S) (t : T) where

@@ -1,5 +1,5 @@
 -- The steps of a turn keep the rule.
-use Rattle.std.proofs.Common.{◌≡◌, ℕ, ◌+◌, ◌*◌, ◌^◌, ◌%◌, ◌<◌, ◌≤◌, ◌≢◌, true, List, [], ◌∷◌, ◌++◌, length, get_or, set, sym, refl, ap, ◌∙◌, subst, arith, length-set, get_or-set_same, get_or-set_other, mod-eq_of_lt, mul-le-mul_right, le_refl}
+use Rattle.std.proofs.Common.{◌≡◌, ℕ, ◌+◌, ◌*◌, ◌^◌, ◌%◌, ◌<◌, ◌≤◌, ◌≢◌, true, List, [], ◌∷◌, length, get_or, set, sym, refl, ap, ◌∙◌, subst, arith, length-set, get_or-set_same, get_or-set_other, mod-eq_of_lt, mul-le-mul_right, le_refl}
 use mathlib.Core.Logic.{dite}
 use mathlib.Core.Option.{some, none}
 use mathlib.Core.Option as maybe
@@ -13,7 +13,7 @@ use Rattle.turn_rows.specs.declared.view.Log.{Log}
 use Rattle.turn_rows.specs.declared.view.Stage.{Stage}
 use Rattle.turn_rows.specs.declared.view.Stage.TheVariants.{Idle, Waiting, Served, Holding, Leaving}
 use Rattle.turn_rows.specs.Lists.{put, sum_below, made_by, Adds}
-use Rattle.turn_rows.specs.Rule.{Meaning, Row, serving, next_ticket, InTurn, HasTicket, IsLog, HasTurn, Sees, AtHome, RowHolds, RowsHold}
+use Rattle.turn_rows.specs.Rule.{Meaning, Row, serving, next_ticket, InTurn, HasTicket, IsLog, HasTurn, Sees, AtHome, RowsHold}
 use Rattle.turn_rows.specs.Plays.{moved, with_call, with_row, ticketed, looked, took, gave, advanced, fresh, Finds}
 use Rattle.turn_rows.proofs.Sums.{at_put, put_here, put_else, sum_few, sum_after}
 use Rattle.turn_rows.proofs.Lists.{same_at, at_inside, begins_itself, adds_front, adds_other}

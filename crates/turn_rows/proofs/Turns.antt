@@ -1,5 +1,5 @@
 -- The steps of one turn, one after another, and what the turn then tells.
-use Rattle.std.proofs.Common.{◌≡◌, ◌≢◌, ℕ, ◌+◌, ◌*◌, ◌^◌, ◌<◌, ◌≤◌, ◌⊎◌, ⊎_elim, inl, inr, true, List, [], ◌∷◌, ◌++◌, length, set, sym, refl, ap, ◌∙◌, subst, arith}
+use Rattle.std.proofs.Common.{◌≡◌, ◌≢◌, ℕ, ◌+◌, ◌*◌, ⊎_elim, inl, inr, true, List, [], ◌∷◌, ◌++◌, sym, ap, ◌∙◌, subst}
 use mathlib.Core.Option.{some, none}
 use lib.ListN.{get_elem?}
 use Rattle.atomic_table.specs.Table.{Me, step, rest, Allows}
@@ -7,10 +7,10 @@ use Rattle.atomic_table.proofs.Lists.{set_here, set_else}
 use Rattle.turn_rows.specs.declared.view.View.{View}
 use Rattle.turn_rows.specs.declared.view.Log.{Log}
 use Rattle.turn_rows.specs.declared.view.Stage.TheVariants.{Idle, Served, Holding, Leaving}
-use Rattle.turn_rows.specs.Lists.{StartsWith, made_by, Adds, AddsToBoth}
-use Rattle.turn_rows.specs.Rule.{Meaning, Sees, RowsHold}
+use Rattle.turn_rows.specs.Lists.{StartsWith, made_by, Adds}
+use Rattle.turn_rows.specs.Rule.{Meaning, RowsHold}
 use Rattle.turn_rows.specs.Plays.{moved, with_call, with_row, gave, advanced, Finds, Ran}
-use Rattle.turn_rows.specs.Passes.{seen_in, mine_in, mark_in, entries_at, mark_at, TurnTaken}
+use Rattle.turn_rows.specs.Passes.{seen_in, mine_in, entries_at, mark_at, TurnTaken}
 use Rattle.turn_rows.proofs.Lists.{at_inside, own_more, adds_front}
 use Rattle.turn_rows.proofs.Steps.{gives_back, advances}
 

@@ -1,6 +1,6 @@
 -- The rule of the rows: what holds of their words, their slots and the views of all passes between any two steps.
 -- Of n rows, the word 8 r is the number that the row r serves, the word 8 r + 1 its next ticket, and the word 8 n the number that is drawn next.
-use Rattle.std.specs.Prelude.{◌≡◌, ℕ, ◌+◌, ◌*◌, ◌^◌, ◌<◌, ◌≤◌, ◌≢◌, List, [], ◌∷◌, length, slice_index, true, false, All}
+use Rattle.std.specs.Prelude.{◌≡◌, ℕ, ◌+◌, ◌*◌, ◌^◌, ◌<◌, ◌≤◌, ◌≢◌, List, [], length, slice_index, true, false, All}
 use mathlib.Core.Option.{some, none}
 use mathlib.Core.Option as maybe
 use lib.ListN.{get_elem?}

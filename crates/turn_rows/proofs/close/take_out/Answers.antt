@@ -1,7 +1,7 @@
-use Rattle.std.proofs.Common.{arith, ◌≡◌, ◌<◌, ◌≤◌, ◌≢◌, ◌+◌, ℕ, suc, List, ◌∷◌, ◌++◌, [], false, length, get_or, set, take, sym, refl, ap, ◌∙◌, get_or-set_other, get_or-set_same, add-one}
+use Rattle.std.proofs.Common.{arith, ◌<◌, ◌+◌, ℕ, ◌∷◌, ◌++◌, [], false, length, get_or, set, take, sym, ap, ◌∙◌, get_or-set_other, get_or-set_same}
 use mathlib.Core.Logic.{dite}
 use native.Mathlib.Decide.{ℕ_discrete}
-use Rattle.std.specs.Slots.{slots_items, slots_filled, slots_len, slots_counts}
+use Rattle.std.specs.Slots.{slots_items, slots_filled, slots_counts}
 use Rattle.turn_rows.proofs.Lists.{take_at_place}
 use Rattle.turn_rows.proofs.close.take_out.Goals as goal
 

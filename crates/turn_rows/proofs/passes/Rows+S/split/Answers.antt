@@ -1,4 +1,4 @@
-use Rattle.std.proofs.Common.{arith, rules, ◌≡◌, ◌<◌, ◌∙◌, ℕ, ap, sym, subst, ◌*◌}
+use Rattle.std.proofs.Common.{arith, rules, ◌<◌, ◌∙◌, ℕ, ap, sym, subst, ◌*◌}
 use lib.ListN.{get_elem?}
 use Rattle.turn_rows.specs.Rule.{meaning}
 use Rattle.turn_rows.specs.Passes.{IsFresh}

@@ -1,14 +1,12 @@
-use Rattle.std.proofs.Common.{arith, ◌≡◌, ◌<◌, ◌+◌, ℕ, zero, suc, List, [], ◌∷◌, ◌++◌, Bool, cond, length, get_or, sym, refl, ap, ◌∙◌, subst, eq-eqb}
+use Rattle.std.proofs.Common.{arith, ◌≡◌, ◌<◌, ◌+◌, ℕ, suc, List, [], ◌∷◌, ◌++◌, Bool, cond, length, get_or, sym, refl, ap, ◌∙◌, subst, eq-eqb}
 use mathlib.Core.Logic.{dite}
 use native.Mathlib.Decide.{ℕ_discrete}
 use lib.ListN.{get_elem?}
 use mathlib.Core.Option.{some}
 use Rattle.std.proofs.Math.ListN.{get_or-append}
 use Rattle.std.proofs.Math.Seq.{get_or-append_seam}
-use Rattle.atomic_table.proofs.Lists.{at_longer, at_last}
-use Rattle.turn_rows.specs.declared.rows.RowPass.{RowPass}
+use Rattle.atomic_table.proofs.Lists.{at_longer}
 use Rattle.turn_rows.specs.declared.view.Log.{Log}
-use Rattle.turn_rows.specs.declared.tests.tally.Tally.{Tally}
 use Rattle.turn_rows.specs.Passes.{IsAlone, HasLog, HasAll, passes_made, log_numbered, log_of, kept_of}
 use Rattle.turn_rows.proofs.tests.crew.join_others.Goals as goal
 
@@ -24,9 +22,10 @@ has_new cs ds c = (length cs, c, here cs ds c, refl)
 
 -- a pass with the number 0 that keeps the logs of all others
 has_all : {S : Type 0} (c : Log S) (kept : List (Log S)) → c.number ≡ 0 → 0 < c.made → ((q : ℕ) → 0 < q → q < c.made → HasLog q kept) → HasAll (c ∷ kept)
-has_all c kept zero_is pos each = let made_is : passes_made (c ∷ kept) ≡ c.made = ap (λ (b : Bool). (cond b c (log_numbered 0 kept)).made) (eq-eqb c.number 0 zero_is) in
-    (subst (λ (n : ℕ). 0 < n) (sym made_is) pos,
-    λ p l. dite (ℕ_discrete p 0) (λ e. (0, c, refl, zero_is ∙ sym e)) (λ n. let h = each p (omega arith) (subst (λ (n : ℕ). p < n) made_is l) in (suc h.0, h.1, h.2, h.3)))
+has_all c kept zero_is pos each = let made_is : passes_made (c ∷ kept) ≡ c.made = ap (λ (b : Bool). (cond b c (log_numbered 0 kept)).made) (eq-eqb c.number 0 zero_is) in (
+  subst (λ (n : ℕ). 0 < n) (sym made_is) pos,
+  λ p l. dite (ℕ_discrete p 0) (λ e. (0, c, refl, zero_is ∙ sym e)) (λ n. let h = each p (omega arith) (subst (λ (n : ℕ). p < n) made_is l) in (suc h.0, h.1, h.2, h.3)),
+)
 
 pub loop-other-preserved : goal.loop-other-preserved
 loop-other-preserved c = let inv = c.loop-other.invariant in let olds = c.loop-other.others.items in let news = c.pop.new.self.items in let other = c.in-Some.other in let is = c.in-Some.ensures.items in let cases = c.in-Some.ensures.cases in

@@ -1,9 +1,9 @@
-use Rattle.std.proofs.Common.{arith, rules, ◌≡◌, sym, ◌∙◌, ap, subst, ℕ}
+use Rattle.std.proofs.Common.{arith, rules, ◌∙◌, ap, subst, ℕ}
 use Rattle.turn_rows.specs.Lists.{Adds}
 use Rattle.turn_rows.specs.Rule.{meaning}
 use Rattle.turn_rows.proofs.Lists.{same_at}
 use Rattle.turn_rows.proofs.Steps.{takes_out}
-use Rattle.turn_rows.proofs.Turns.{TookOut, given, gives, serves_next, ran}
+use Rattle.turn_rows.proofs.Turns.{given, gives, serves_next, ran}
 use Rattle.turn_rows.proofs.turn.Rows+S.run.Goals as goal
 
 pub load-requires : goal.load-requires

@@ -1,4 +1,4 @@
-use Rattle.std.proofs.Common.{arith, rules, ◌≡◌, sym, refl, ◌∙◌, ap}
+use Rattle.std.proofs.Common.{arith, rules, refl, ◌∙◌, ap}
 use Rattle.turn_rows.specs.declared.view.Stage.TheVariants.{Served}
 use Rattle.turn_rows.specs.Plays.{moved}
 use Rattle.turn_rows.specs.Rule.{meaning}
