@@ -12,11 +12,17 @@ use crate::plays::{Advance, Give, Look, Take, Ticket};
 use crate::rows::{RowPass, Rows, WORDS_A_ROW};
 use crate::view::View;
 use atomic_table::Seat;
+use std::hint::spin_loop;
 use std::sync::Wait;
 use std::thread::yield_now;
 
-// How often a pass that waits looks before it sleeps.
-const LOOKS: u32 = 64;
+// How often a pass that waits looks at once again, and how often in all before it sleeps.
+const SPINS: u32 = 32;
+
+const LOOKS: u32 = 96;
+
+// How often a pass looks for a free row before it draws a ticket behind others.
+const APPROACHES: u32 = 64;
 
 impl<S: Held> Rows<S> {
     /// Runs the step on the row's state in this pass's turn. It waits for the turns that were drawn before, and takes no memory.
@@ -55,6 +61,7 @@ impl<S: Held> Rows<S> {
     {
         let words = &self.table.shared;
         let serving = row * WORDS_A_ROW;
+        self.approach(serving);
         let ticket = words.fetch_add::<Ticket>(seat, serving + 1, 1);
         let mut looks = 0u32;
         for _ in rt.forever() {
@@ -68,16 +75,30 @@ impl<S: Held> Rows<S> {
         unreachable!()
     }
 
-    /// What a pass does that has looked so often in vain: it yields at first, and then sleeps until another ticket is served.
+    /// Yields while the row is busy, but not for ever. A pass that draws its ticket in a free row is served at once, and one that queues is served only once its thread runs again, while the threads that do run wait for it.
+    fn approach(&self, serving: usize)
+        requires { serving + 1 < self.now.table.shared.table_id.words }
+    {
+        let words = &self.table.shared;
+        for _look in 0..APPROACHES {
+            if words.peek(serving + 1) <= words.peek(serving) {
+                return;
+            }
+            yield_now();
+        }
+    }
+
+    /// What a pass does that has looked so often in vain: it looks again, then yields, and then sleeps until another ticket is served.
     fn pause<R: Wait>(&self, rt: &R, serving: usize, now: u64, looks: u32)
         requires { serving < self.now.table.shared.table_id.words }
     {
-        if looks < LOOKS {
+        if looks < SPINS {
+            spin_loop();
+        } else if looks < LOOKS {
             yield_now();
         } else {
-            self.table
-                .shared
-                .park(rt, serving, (now & 0xffff_ffff) as u32);
+            let words = &self.table.shared;
+            words.park(rt, serving, (now & 0xffff_ffff) as u32);
         }
     }
 
