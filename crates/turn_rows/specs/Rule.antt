@@ -69,7 +69,7 @@ module _ {S : Type 0} where
     pub of_start : v.start ≡ start
     pub keeps : (i : ℕ) (c : Log S) → get_elem? v.kept i ≡ some c → (c ≡ logs c.number) × (keeper c.number ≡ j) × (c.number < made) × (c.number ≢ j)
 
-  -- the number drawn next is the shared count plus the number of draws, and the passes drew those before it, each once
+  -- the fifth part, of the draws: the passes drew the numbers from the shared count up to the next one, each once
   pub record DrawsHold (shared next made : ℕ) (logs : ℕ → Log S) : Type 0 where
     pub bound : next ≤ shared + sum_below made (λ p. (logs p).calls)
     pub drawn : DrawnOnce shared next made (λ p. (logs p).draws)
@@ -93,20 +93,20 @@ module _ {S E T : Type 0} (m : Meaning S E T) where
   abbrev pub Sees : Log S → ℕ → S → Type 0
   Sees c r x = (y : S) × (get_elem? c.rows r ≡ some y) × StartsWith (m.entries x) (m.entries y) × (made_by m.by c.number (m.entries x) ≡ made_by m.by c.number (m.entries y))
 
-  -- the five parts of the rule that speak of one row
+  -- the first four parts of the rule, of one row: its tickets, its slot, what the passes have seen, and whose the entries are
   pub record RowHolds (t : T) (words : List ℕ) (homes : List (maybe.Option S)) (views : List (View S)) (made : ℕ) (logs : ℕ → Log S) (row : Row S) (r : ℕ) : Type 0 where
-    -- the ticket that is served is one that was drawn, or the next; each later one is the waiting ticket of one pass
+    -- 1. the ticket that is served is one that was drawn, or the next; each drawn one from there on is the waiting ticket of one pass
     pub behind : serving words r ≤ next_ticket words r
     pub bound : next_ticket words r ≤ sum_below made (λ p. (logs p).calls)
     pub waits : (k : ℕ) → serving words r < k → k < next_ticket words r → (v : View S) × (get_elem? views (row.waiter k) ≡ some v) × (v.stage ≡ Waiting r k)
-    -- the slot is empty only while the pass that is served has the state out
+    -- 2. the slot is empty only while the pass that is served has the state out; a state at home has had as many turns as were served
     pub served : serving words r < next_ticket words r → (v : View S) × (get_elem? views (row.waiter (serving words r)) ≡ some v) × HasTurn homes r (serving words r) row.state v.stage
     pub rests : serving words r ≡ next_ticket words r → AtHome homes r (serving words r) row.state
     pub tagged : m.tag row.state ≡ t
-    -- what each pass has seen is a beginning of the state's entries, and a pass that is alone has seen the state itself
+    -- 3. what each pass has seen is a beginning of the state's entries, and a pass that is alone has seen the state itself
     pub seen : (p : ℕ) → p < made → Sees (logs p) r row.state
     pub alone : made ≡ 1 → get_elem? (logs 0).rows r ≡ some row.state
-    -- no entry has a number that was not given yet
+    -- 4. a pass has seen all entries that it made (`Sees`), and no entry has a number that was not given yet
     pub no_other : (p : ℕ) → made ≤ p → made_by m.by p (m.entries row.state) ≡ []
 
   -- the rule: of each row, each pass, and the draws
