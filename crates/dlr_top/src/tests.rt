@@ -40,13 +40,17 @@ impl Source for SlowSource {
     }
 }
 
-// Takes one to three bytes a call, and fails at the call of this number.
+// Takes one to three bytes a call, and fails at the call of this number. Counts how often room was reserved, and
+// the writes that were not offered all that is left of it.
 #[derive(Drop)]
 struct SlowSink {
     clean: CleanSink,
     calls: u64,
     fails_at: u64,
     faults: u64,
+    reserved: u64,
+    left: usize,
+    short: u64,
 }
 
 impl Sink for SlowSink {
@@ -60,6 +64,8 @@ impl Sink for SlowSink {
     ghost room = { λ s. reserved_room s.clean };
 
     fn reserve(&mut self, bytes: usize) -> Result<(), AllocError> {
+        self.reserved = self.reserved.saturating_add(1);
+        self.left = bytes;
         self.clean.reserve(bytes)
     }
 
@@ -70,7 +76,11 @@ impl Sink for SlowSink {
             self.faults = self.faults.saturating_add(1);
             return Err(Failed);
         }
+        if piece.len() != self.left {
+            self.short = self.short.saturating_add(1);
+        }
         let most = piece.len().min((call % 3) as usize + 1);
+        self.left = self.left.saturating_sub(most);
         self.clean.write(&piece[..most])
     }
 }
@@ -90,6 +100,9 @@ fn slow_sink(alloc: Global, fails_at: u64) -> SlowSink {
         calls: 0,
         fails_at,
         faults: 0,
+        reserved: 0,
+        left: 0,
+        short: 0,
     }
 }
 
@@ -258,6 +271,8 @@ fn a_sink_that_fails_keeps_a_front_of_the_text(rt: HostRuntime) -> Result<(), Fa
         assert_eq!(rt; outcome.status, status, "at {fails_at}");
         assert!(rt; outcome.report.is_some());
         assert_eq!(rt; sink.clean.bytes(), want.as_bytes());
+        assert_eq!(rt; sink.reserved, 1);
+        assert_eq!(rt; sink.short, 0);
     }
     Ok(())
 }
