@@ -89,6 +89,7 @@ impl<R> Cache<R> {
         ensures known { IfOk result (λ pass. known_of pass ≡ []) }
         ensures published { IfOk result (λ pass. published_of pass ≡ 0) }
         ensures foreign { IfOk result (λ pass. foreign_of pass ≡ 0) }
+        ensures looked { IfOk result (λ pass. looked_of pass ≡ 0) }
     {
         CachePass::new(alloc, self.passes.fetch_add(1, Ordering::SeqCst))
     }

@@ -41,6 +41,7 @@ impl<R, A> CachePass<R, A> {
         ensures rows { IfOk result (λ pass. pass.rules.rows.items ≡ []) }
         ensures published { IfOk result (λ pass. published_of pass ≡ 0) }
         ensures foreign { IfOk result (λ pass. foreign_of pass ≡ 0) }
+        ensures looked { IfOk result (λ pass. looked_of pass ≡ 0) }
     {
         Ok(CachePass {
             rules: KnownRules::new(alloc)?,
