@@ -1,5 +1,5 @@
 -- What a user sees of a pass: a map from the numbers of the classes that it knows to their lists of names.
-use Rattle.std.specs.Prelude.{◌≡◌, ◌≢◌, ℕ, ◌==◌, List, [], Option, Some, None, cond}
+use Rattle.std.specs.Prelude.{◌≡◌, ◌≢◌, ℕ, ◌==◌, List, Option, Some, cond}
 use Rattle.std.specs.Ordering.{nat_cmp}
 use Rattle.std.specs.BTreeMap.{get}
 use Rattle.expando_class.specs.declared.class.ClassRef.{ClassRef}

@@ -73,10 +73,12 @@ impl ClassPass {
     {
         let number = class.number();
         self.by_number.insert(number, class.copy())?;
-        if self.by_names.insert(names, number).is_err() {
-            self.by_number.remove(&number);
-            return Err(AllocError);
+        match self.by_names.insert(names, number) {
+            Ok(_) => Ok(()),
+            Err(_) => {
+                self.by_number.remove(&number);
+                Err(AllocError)
+            }
         }
-        Ok(())
     }
 }
