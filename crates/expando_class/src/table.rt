@@ -11,14 +11,14 @@ use std::sync::Wait;
 /// Classes that only come and never go, so that threads add and read them through a `&`.
 #[derive(Drop)]
 pub struct ClassTable {
-    pub(crate) classes: boxcar::Vec<Names>,
+    classes: boxcar::Vec<Names>,
     root: Names,
     ghost rooted: { root ≡ [] },
 }
 
 impl ClassTable {
     ghost use Rattle.expando_class.specs.Class.{number_of, names_of, IsClassOf};
-    ghost use Rattle.expando_class.specs.Pass.{class_map, IsPassOf, KnowsNone, Learns, KnowsSame};
+    ghost use Rattle.expando_class.specs.Pass.{class_map, IsPassOf, KnowsRootAlone, KnowsNone, Learns, KnowsSame};
 
     /// A table with the root class alone, which has the number 0 and no names, or want of memory.
     pub fn new(alloc: Global) -> Result<ClassTable, AllocError> {
@@ -31,8 +31,7 @@ impl ClassTable {
     /// A pass that knows the root alone, or want of memory.
     pub fn pass(&self, alloc: Global) -> Result<ClassPass, AllocError>
         ensures pass { IfOk result (IsPassOf self.now) }
-        ensures root { IfOk result (λ pass. (number : ℕ) →
-            class_map pass number ≡ cond (number == 0) (Some []) None) }
+        ensures root { IfOk result KnowsRootAlone }
     {
         ClassPass::new(alloc)
     }
