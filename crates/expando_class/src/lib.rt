@@ -5,6 +5,8 @@ mod class;
 mod names;
 mod pass;
 mod table;
+#[cfg(test)]
+mod tests;
 
 pub use class::ClassRef;
 pub use pass::ClassPass;
