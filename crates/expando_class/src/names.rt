@@ -1,0 +1,148 @@
+//! The list of names of one class.
+ghost use Rattle.std.specs.Prelude.{◌≡◌, ◌≢◌, ◌+◌, ◌<◌, ◌≤◌, ◌++◌, ◌∷◌, [], All, IfOk, IfSome, IfNone, Some, length, slice_get};
+ghost use Rattle.expando_class.specs.Listing.{AreNames, without, names_cmp};
+
+use std::alloc::{AllocError, Global};
+use std::cmp::Ordering;
+use std::marker::Model;
+
+/// The names of one class, in the order in which they were added.
+#[derive(Drop)]
+pub struct Names {
+    names: Vec<String>,
+}
+
+impl Model for Names {
+    ghost use Rattle.std.specs.Prelude.{List, ℕ};
+    ghost use Rattle.expando_class.specs.Listing.{AreNames, bytes_of_each};
+
+    ghost Value = { List (List ℕ) };
+
+    ghost view = { λ a. bytes_of_each a.names.items };
+
+    ghost invariant = { λ a. AreNames (bytes_of_each a.names.items) };
+}
+
+impl Names {
+    /// The list of no names.
+    pub fn empty(alloc: Global) -> Names
+        ensures { result ≡ [] }
+    {
+        Names {
+            names: Vec::new(alloc),
+        }
+    }
+
+    /// How many names there are.
+    pub fn size(&self) -> u16
+        ensures size { result ≡ length self.now }
+        ensures names { AreNames self.now }
+    {
+        self.names.len() as u16
+    }
+
+    /// The place of a name. `None` exactly where the list has no such name.
+    pub fn place_of(&self, name: &str) -> Option<u16>
+        ensures some { IfSome result (λ place. slice_get self.now place ≡ Some name.now) }
+        ensures none { IfNone result (All (λ other. other ≢ name.now) self.now) }
+    {
+        for (place, other) in self.names.iter().enumerate() {
+            if other.as_str() == name {
+                return Some(place as u16);
+            }
+        }
+        None
+    }
+
+    /// The name at a place.
+    pub fn name_at(&self, place: u16) -> &str
+        requires { place < length self.now }
+        ensures { slice_get self.now place ≡ Some result.now }
+    {
+        self.names[place as usize].as_str()
+    }
+
+    /// The names with one more at the end, or want of memory.
+    pub fn with(&self, name: &str) -> Result<Names, AllocError>
+        requires new { All (λ other. other ≢ name.now) self.now }
+        requires short { length name.now ≤ 64 }
+        requires room { length self.now < 64 }
+        ensures { IfOk result (λ names. names ≡ self.now ++ name.now ∷ []) }
+    {
+        let mut names = self.names.clone()?;
+        let name = String::from_str(*names.allocator(), name)?;
+        names.push(name)?;
+        Ok(Names { names })
+    }
+
+    /// The names without the one at a place, or want of memory.
+    pub fn without(&self, place: u16) -> Result<Names, AllocError>
+        requires { place < length self.now }
+        ensures { IfOk result (λ names. names ≡ without self.now place) }
+    {
+        let mut names = self.names.clone()?;
+        names.remove(place as usize);
+        Ok(Names { names })
+    }
+}
+
+impl Clone for Names {
+    ghost is_clone = { λ one other. other ≡ one };
+
+    fn clone(&self) -> Result<Names, AllocError> {
+        Ok(Names {
+            names: self.names.clone()?,
+        })
+    }
+}
+
+impl PartialEq for Names {
+    ghost use Rattle.std.specs.Cmp.{partial_equiv_from_equiv};
+    ghost use Rattle.std.specs.Ordering.{eq_by_cmp};
+    ghost use Rattle.std.proofs.lemmas.Cmp.{eq_by_cmp_equiv, lists_total, nat_list_cmp_total};
+
+    ghost eq = { eq_by_cmp names_cmp };
+
+    ghost laws = { partial_equiv_from_equiv (eq_by_cmp_equiv (lists_total nat_list_cmp_total)) };
+
+    fn eq(&self, other: &Names) -> bool {
+        self.cmp(other).is_eq()
+    }
+}
+
+impl Eq for Names {
+    ghost use Rattle.std.proofs.lemmas.Cmp.{eq_by_cmp_equiv, lists_total, nat_list_cmp_total};
+
+    ghost laws = { eq_by_cmp_equiv (lists_total nat_list_cmp_total) };
+}
+
+impl PartialOrd for Names {
+    ghost use Rattle.std.specs.Ordering.{as_partial_cmp};
+    ghost use Rattle.std.specs.Cmp.{partial_order_from_total};
+    ghost use Rattle.std.proofs.lemmas.Cmp.{lists_total, nat_list_cmp_total};
+
+    ghost partial_cmp = { as_partial_cmp names_cmp };
+
+    ghost laws = { partial_order_from_total (lists_total nat_list_cmp_total) };
+
+    fn partial_cmp(&self, other: &Names) -> Option<Ordering> {
+        Some(self.cmp(other))
+    }
+}
+
+impl Ord for Names {
+    ghost use Rattle.std.specs.Prelude.{refl};
+    ghost use Rattle.std.proofs.lemmas.Cmp.{lists_total, nat_list_cmp_total};
+
+    ghost cmp = { names_cmp };
+
+    ghost total = { lists_total nat_list_cmp_total };
+
+    ghost matches_partial_cmp = { λ one other. refl };
+
+    ghost matches_eq = { λ one other. refl };
+
+    fn cmp(&self, other: &Names) -> Ordering {
+        self.names.cmp(&other.names)
+    }
+}
