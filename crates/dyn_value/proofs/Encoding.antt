@@ -1,15 +1,18 @@
 -- Characters, and the bytes that spell them.
-use Rattle.std.proofs.Common.{◌≡◌, true, ℕ, ◌+◌, ◌^◌, ◌<◌, ◌≤◌, ℤ, FitsSigned, List, [], ◌∷◌, ◌++◌, length, sym, ap, ◌∙◌, length-append, arith, string_bytes, string_len}
-use Rattle.std.specs.Prelude.{String, encode_utf8, encode_utf8_all, Result, Ok, Err, IfOk, OnOk, is_ok, if◌then◌else◌}
+use Rattle.std.proofs.Common.{◌≡◌, true, ℕ, ◌+◌, ◌^◌, ◌<◌, ◌≤◌, ℤ, FitsSigned, List, [], ◌∷◌, ◌++◌, length, sym, ap, subst, ◌∙◌, length-append, arith, string_bytes, string_len}
+use Rattle.std.specs.Prelude.{String, encode_utf8, encode_utf8_all, Result, Ok, Err, IfOk, OnOk, is_ok, if◌then◌else◌, pos, Option, slice_get}
+use Rattle.std.specs.Option.{option_map}
 use Rattle.std.specs.Char.{IsScalar, is_ascii}
 use Rattle.std.specs.List.{list_all}
 use Rattle.std.proofs.lemmas.Bool.Decides.{nat_tests}
 use Rattle.std.proofs.lemmas.Str.Ascii.{IsAscii-nil, IsAscii-cons}
 use Rattle.std.proofs.lemmas.List.{append-nil}
 use Rattle.std.specs.Str.{chars, IsUtf8, IsAscii}
-use Rattle.std.proofs.lemmas.Str.{encodes-chars, encodes-append, chars-append, chars-nil, chars-IsAscii, IsAscii-append, chars_past_char, IsUtf8-encode}
+use Rattle.std.proofs.lemmas.Str.{encodes-chars, encodes-append, chars-append, chars-nil, chars-IsAscii, IsAscii-append, chars_past_char, IsUtf8-encode, IsUtf8-nil, IsUtf8-string_bytes, scalars-chars, length-le-encodes}
 use Rattle.std.specs.Fmt.{decimal, signed_decimal}
 use Rattle.std.specs.Int.{w64}
+use Rattle.dyn_value.specs.Proper.{IsText}
+use Rattle.dyn_value.specs.Texts.{character_at}
 use Rattle.std.proofs.lemmas.Fmt.{IsAscii-decimal, IsAscii-signed, length-decimal-le, length_signed_le}
 
 -- the bytes of a text that is seen as its characters
@@ -92,3 +95,23 @@ appended (Err x) old new bs cs e gained = tt
 pub extended : {A E Z : Type 0} (r : Result A E) (old new : String Z) (bs cs : List ℕ) → chars (string_bytes old ++ bs) ≡ chars (string_bytes old) ++ cs → string_bytes new ≡ (if is_ok r then string_bytes old ++ bs else string_bytes old) → OnOk r (chars (string_bytes new) ≡ chars (string_bytes old) ++ cs)
 extended (Ok x) old new bs cs e gained = ap chars gained ∙ e
 extended (Err x) old new bs cs e gained = tt
+
+-- a short string is a text
+pub text_of_string : {Z : Type 0} (s : String Z) → length (string_bytes s) ≤ 65536 → IsText (chars (string_bytes s))
+text_of_string s fits =
+    let text = IsUtf8-string_bytes s in (
+      scalars-chars (string_bytes s) text,
+      subst (λ b. length b ≤ 65536) (sym (encodes-chars (string_bytes s) text)) fits,
+    )
+
+-- one character alone
+pub chars_alone : (c : ℕ) → IsScalar c → chars (encode_utf8 c) ≡ c ∷ []
+chars_alone c scalar = chars_pushed [] c IsUtf8-nil scalar ∙ ap (λ x. x ++ c ∷ []) chars-nil
+
+-- there are at most as many characters as bytes
+pub length_chars_le : (bs : List ℕ) (n : ℕ) → IsUtf8 bs → length bs ≤ n → length (chars bs) ≤ n
+length_chars_le bs n text fits = omega (arith, length-le-encodes (chars bs), ap length (encodes-chars bs text))
+
+-- the character that a place has, as a text
+pub at_place : (cs : List ℕ) (index : ℤ) (place : ℕ) (o : Option ℕ) → index ≡ pos place → o ≡ slice_get cs place → option_map (λ c. c ∷ []) o ≡ character_at cs index
+at_place cs index place o at found = ap (option_map (λ c. c ∷ [])) found ∙ ap (character_at cs) (sym at)

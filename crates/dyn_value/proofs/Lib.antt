@@ -1,1 +1,4 @@
 pub mod Encoding
+mod Numbers
+mod ProperAnswers
+mod TextAsInt

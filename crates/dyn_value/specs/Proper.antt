@@ -17,3 +17,9 @@ IsProper (Int n) = FitsSigned w64 n
 IsProper (Text t) = IsText t
 IsProper (Fun f) = f < 256
 IsProper (Obj o) = o < 4096
+
+-- proper in a run of so many functions and objects
+abbrev pub IsProperIn : ℕ → ℕ → Value → Type 0
+IsProperIn functions objects (Fun f) = (f < functions) × (f < 256)
+IsProperIn functions objects (Obj o) = (o < objects) × (o < 4096)
+IsProperIn functions objects v = IsProper v

@@ -2,6 +2,8 @@
 #![tactic(auto)]
 
 mod arithmetic;
+mod conversions;
+mod entry;
 mod fault;
 mod label;
 mod operations;
@@ -13,6 +15,8 @@ mod tests;
 mod text;
 mod value;
 
+pub use conversions::convert;
+pub use entry::Entry;
 pub use fault::Fault;
 pub use operations::{binary, unary};
 pub use operator::{BinOp, UnOp};

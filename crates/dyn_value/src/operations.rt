@@ -3,6 +3,7 @@ ghost use Rattle.std.specs.Ordering.{is_lt, is_le, is_gt, is_ge};
 ghost use Rattle.std.specs.declared.cmp.Ordering.{Ordering};
 ghost use Rattle.dyn_value.specs.Operations.{unary_of, binary_of, truth, whole, on_numbers, on_ordered, on_truths, quotient_of, remainder_of, sum_of};
 ghost use Rattle.dyn_value.specs.Operations as spec;
+ghost use Rattle.dyn_value.specs.Proper.{IsProper};
 
 use crate::arithmetic;
 use crate::fault::Fault;
@@ -19,7 +20,8 @@ use std::cmp::Ordering;
 /// - `IsTrue` gives false for nil, and a `Bool` itself.
 /// - On every other kind each gives `NoOperator`.
 pub fn unary(op: UnOp, value: &Value) -> Result<Value, Fault>
-    ensures { result ≡ unary_of op value.now }
+    ensures answer { result ≡ unary_of op value.now }
+    ensures proper { IsProper value.now → IfOk result IsProper }
 {
     match (op, value) {
         (UnOp::Negate, Value::Int(number)) => arithmetic::negated(*number),
@@ -53,7 +55,8 @@ pub fn binary(
     left: &Value,
     right: &Value,
 ) -> Result<Result<Value, Fault>, AllocError>
-    ensures { IfOk result (λ r. r ≡ binary_of op left.now right.now) }
+    ensures answer { IfOk result (λ r. r ≡ binary_of op left.now right.now) }
+    ensures proper { IfOk result (λ r. IsProper left.now → IsProper right.now → IfOk r IsProper) }
 {
     Ok(match op {
         BinOp::Add => sum(alloc, left, right)?,

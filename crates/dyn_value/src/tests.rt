@@ -1,3 +1,6 @@
+mod conversions;
+mod kinds;
+
 use crate::{BinOp, DynText, Fault, Kind, UnOp, Value, binary, unary};
 use std::alloc::{AllocError, Global};
 use std::test::Fail;

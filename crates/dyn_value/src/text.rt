@@ -1,7 +1,9 @@
-ghost use Rattle.std.specs.Prelude.{◌≡◌, ◌↔◌, ◌<◌, ◌≤◌, ◌++◌, length, encode_utf8_all, IfOk, IsTrue, MatchOption, string_bytes, string_len};
+ghost use Rattle.std.specs.Prelude.{◌≡◌, ◌↔◌, ◌<◌, ◌≤◌, ◌∷◌, [], ◌++◌, length, pos, encode_utf8_all, IfOk, IfSome, OnOk, OnErr, IsTrue, MatchOption, string_bytes, string_len};
 ghost use Rattle.std.specs.Str.{chars};
 ghost use Rattle.dyn_value.specs.Proper.{IsText};
+ghost use Rattle.dyn_value.specs.Texts.{character_at, quoted_text};
 
+use crate::quote::quoted;
 use std::alloc::{AllocError, Global};
 use std::marker::Model;
 
@@ -32,6 +34,7 @@ impl DynText {
     pub fn from_str(alloc: Global, text: &str) -> Result<Option<DynText>, AllocError>
         ensures characters { IfOk result (λ o. MatchOption o (65536 < length text.now) (λ t. t ≡ chars text.now)) }
         ensures fits { IfOk result (λ o. MatchOption o (65536 < length text.now) (λ _. length text.now ≤ 65536)) }
+        ensures proper { IfOk result (λ o. IfSome o IsText) }
     {
         if text.len() > DynText::MOST_BYTES {
             return Ok(None);
@@ -43,7 +46,8 @@ impl DynText {
     /// The text of a string that is short enough.
     pub(crate) fn from_string(text: String) -> DynText
         requires { string_len text ≤ 65536 }
-        ensures { result ≡ chars (string_bytes text) }
+        ensures characters { result ≡ chars (string_bytes text) }
+        ensures proper { IsText result }
     {
         DynText { text }
     }
@@ -72,11 +76,53 @@ impl DynText {
         Ok(DynText { text })
     }
 
+    /// The number of characters.
+    pub fn length(&self) -> i64
+        ensures { result ≡ pos (length self.now) }
+    {
+        self.text.as_str().chars().count() as i64
+    }
+
+    /// The text of the one character at the place `index`, counted from 0; `None` exactly where the index
+    /// is below 0 or not below the number of characters. The one error is want of memory.
+    pub fn char_at(&self, alloc: Global, index: i64) -> Result<Option<DynText>, AllocError>
+        ensures character { IfOk result (λ o. o ≡ character_at self.now index) }
+        ensures proper { IfOk result (λ o. IfSome o IsText) }
+    {
+        let Ok(place) = usize::try_from(index) else {
+            return Ok(None);
+        };
+        match self.text.as_str().chars().nth(place) {
+            Some(character) => Ok(Some(DynText::from_char(alloc, character)?)),
+            None => Ok(None),
+        }
+    }
+
+    /// The text of one character.
+    fn from_char(alloc: Global, character: char) -> Result<DynText, AllocError>
+        ensures characters { IfOk result (λ t. t ≡ character ∷ []) }
+        ensures proper { IfOk result IsText }
+    {
+        let mut text = String::new(alloc);
+        text.push(character)?;
+        Ok(DynText::from_string(text))
+    }
+
     /// Whether the two texts have the same characters.
     pub fn same(&self, other: &DynText) -> bool
         ensures { IsTrue result ↔ (self.now ≡ other.now) }
     {
         self.text.as_str() == other.text.as_str()
+    }
+
+    /// Appends the text between quotation marks, as UTF-8, with the escapes `\"`, `\\`, `\n` and `\t`. Where
+    /// memory is refused, `out` stays as it was.
+    pub fn quote_to(&self, out: &mut Vec<u8>) -> Result<(), AllocError>
+        ensures appended { OnOk result (out.new.items ≡ out.old.items ++ encode_utf8_all (quoted_text self.now)) }
+        ensures refused { OnErr result (out.new.items ≡ out.old.items) }
+    {
+        let text = quoted(*out.allocator(), self)?;
+        out.extend_from_slice(text.as_bytes())
     }
 
     /// This text with `next` after it; `None` exactly where that has more than

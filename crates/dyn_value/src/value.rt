@@ -3,6 +3,7 @@ ghost use Rattle.std.specs.Char.{is_ascii};
 ghost use Rattle.std.specs.List.{list_all};
 ghost use Rattle.std.specs.Str.{chars};
 ghost use Rattle.dyn_value.specs.Kinds.{kind_of};
+ghost use Rattle.dyn_value.specs.Proper.{IsText};
 ghost use Rattle.dyn_value.specs.Texts.{kind_name, plain, quoted};
 
 use crate::text::DynText;
@@ -22,7 +23,7 @@ pub enum Kind {
 
 impl Kind {
     /// The name of the kind.
-    pub(crate) fn name(self) -> &'static str
+    pub fn name(self) -> &'static str
         ensures name { result.now ≡ kind_name self }
         ensures ascii { IsTrue (list_all is_ascii result.now) }
     {
@@ -94,7 +95,8 @@ impl Value {
 
     /// The plain text of the value. The one error is want of memory.
     pub fn to_text(&self, alloc: Global) -> Result<DynText, AllocError>
-        ensures { IfOk result (λ t. t ≡ plain self.now) }
+        ensures characters { IfOk result (λ t. t ≡ plain self.now) }
+        ensures proper { IfOk result IsText }
     {
         Ok(DynText::from_string(self.plain_text(alloc)?))
     }
