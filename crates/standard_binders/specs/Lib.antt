@@ -1,2 +1,1 @@
 pub mod Binders
-pub mod Steps

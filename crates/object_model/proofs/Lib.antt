@@ -1,0 +1,6 @@
+pub mod JournalLaws
+mod MemberPlaces
+pub mod MembersKept
+pub mod ProperMembers
+mod StepsByPlace
+mod TextMembers
