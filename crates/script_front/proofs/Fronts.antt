@@ -1,11 +1,14 @@
 -- Where a single token is missing.
-use Rattle.std.proofs.Common.{◌≡◌, ℕ, List, [], ◌∷◌, ◌++◌, refl, codes}
-use Rattle.script_front.specs.declared.token.Keyword.{Keyword}
+use Rattle.std.proofs.Common.{◌≡◌, ℕ, true, List, [], ◌∷◌, ◌++◌, refl, codes}
+use Rattle.dyn_value.specs.declared.operator.BinOp.{BinOp}
+use Rattle.dyn_value.specs.declared.operator.BinOp.TheVariants as op
 use Rattle.script_front.specs.declared.token.Symbol.{Symbol}
 use Rattle.script_front.specs.declared.token.Token.{Token}
 use Rattle.script_front.specs.declared.token.Token.TheVariants as token
 use Rattle.script_front.specs.Forms.{Tokens, Form, AllPlain, GoesOnAs, IsPlain, Stops, tok}
-use Rattle.script_front.specs.Grammar.{BeginsNot, name_form}
+use Rattle.script_front.specs.Grammar.{BeginsNot, name_form, operator_form}
+use Rattle.script_front.specs.Words.{operator_symbol}
+use Rattle.script_front.specs.Written.{is_written_operator}
 
 -- no tree's tokens go on as these
 pub stops_here : (F : Form) (r : Tokens) (t : F.Tree) → F.May t [] → AllPlain (F.tokens t) →
@@ -30,5 +33,9 @@ no_token t r plain none = stops_here (tok t) r tt tt (plain, tt)
 pub no_symbol : (k : Symbol) (r : Tokens) → BeginsNot (token.Mark k) r → Stops (tok (token.Mark k)) r r
 no_symbol k r none = no_token (token.Mark k) r tt none
 
-pub no_word : (k : Keyword) (r : Tokens) → BeginsNot (token.Word k) r → Stops (tok (token.Word k)) r r
-no_word k r none = no_token (token.Word k) r tt none
+pub no_operator : (r : Tokens) →
+    ((o : BinOp) → is_written_operator o ≡ true → BeginsNot (token.Mark (operator_symbol o)) r) →
+    Stops operator_form r r
+no_operator r none =
+    stops_here operator_form r op.Add refl (tt, tt)
+    (λ us go a post m e. let f = first_is r us post (token.Mark (operator_symbol a)) go e in none a m f.0 f.1)

@@ -1,24 +1,32 @@
-pub mod Lists
-pub mod Numbers
-pub mod Refusals
-pub mod FirstCharacters
-pub mod LexemeRuns
-pub mod FrontPieces
-pub mod TokenMeanings
-pub mod PieceRows
-pub mod SymbolFronts
-pub mod TextFronts
-pub mod WordFronts
-pub mod IntegerFronts
+mod BinderCounts
 mod Exits
 mod ExpressionLaws
+mod FirstCharacters
+mod FrontPieces
 mod Fronts
+mod Heads
+mod IntegerFronts
+mod ItemLaws
+mod ItemRules
+mod ItemSteps
 mod Items
+mod LexemeRuns
+pub mod Lists
+mod NameRules
+mod Numbers
 mod ParseOutcomes
+mod PieceRows
+mod PlaceBounds
+mod Refusals
 mod Rules
 mod StatementLaws
 mod StatementRules
 mod StatementSteps
 mod Steps
-mod Trees
+mod SymbolFronts
+mod Targets
+mod TextFronts
+mod TokenMeanings
+pub mod Trees
 mod Unique
+mod WordFronts

@@ -1,6 +1,7 @@
 -- One more site is numbered.
-use Rattle.std.proofs.Common.{◌≡◌, ◌≢◌, inl, inr, ℕ, ◌+◌, ◌<◌, ◌≤◌, max, Bool, true, false, ◌&&◌, ◌==◌, List, [], ◌∷◌, ◌++◌, length, map, Some, refl, sym, ap, ◌∙◌, subst, arith, slice_get, length-append, get_or, take}
+use Rattle.std.proofs.Common.{◌≡◌, ◌≢◌, inl, inr, ℕ, ◌+◌, ◌<◌, ◌≤◌, max, true, ◌==◌, List, [], ◌∷◌, ◌++◌, length, map, Some, refl, sym, ap, ◌∙◌, subst, arith, slice_get, length-append, get_or, take}
 use Rattle.std.specs.Prelude.{nat_le}
+use Rattle.std.proofs.lemmas.Bool.{and_from, and_parts}
 use Rattle.std.proofs.lemmas.List.{take_more, length-map}
 use Rattle.std.proofs.lemmas.Option.{slice_get_within, slice_get-get_or, slice_get-map}
 use Rattle.std.specs.Option.{option_map}
@@ -30,19 +31,11 @@ one_more_each bs (m ∷ ns) (a ∷ known) n b e f =
     let others = one_more_each bs ns known n b rest f in
     cc
 
-parts : (a b : Bool) → (a && b) ≡ true → (a ≡ true) × (b ≡ true)
-parts true b e = (refl, e)
-parts false b e = cc
-
-both : (a b : Bool) → a ≡ true → b ≡ true → (a && b) ≡ true
-both true b e f = f
-both false b e f = cc
-
 one_more_ordered : (known : ℕ) (ns : List ℕ) (all n : ℕ) → is_in_first_order known ns all ≡ true → n ≤ all → is_in_first_order known (ns ++ n ∷ []) (max all (n + 1)) ≡ true
-one_more_ordered known [] all n e h = both (nat_le n known) (max known (n + 1) == max all (n + 1)) (grind (arith, nat_tests)) (grind (arith, nat_tests))
+one_more_ordered known [] all n e h = and_from (nat_le n known) (max known (n + 1) == max all (n + 1)) (grind (arith, nat_tests)) (grind (arith, nat_tests))
 one_more_ordered known (m ∷ ns) all n e h =
-    let p = parts (nat_le m known) (is_in_first_order (max known (m + 1)) ns all) e in
-    both (nat_le m known) (is_in_first_order (max known (m + 1)) (ns ++ n ∷ []) (max all (n + 1))) p.0 (one_more_ordered (max known (m + 1)) ns all n p.1 h)
+    let p = and_parts (nat_le m known) (is_in_first_order (max known (m + 1)) ns all) e in
+    and_from (nat_le m known) (is_in_first_order (max known (m + 1)) (ns ++ n ∷ []) (max all (n + 1))) p.0 (one_more_ordered (max known (m + 1)) ns all n p.1 h)
 
 one_more_distinct : (bs : List Binder) (b : Binder) → ((k : ℕ) → slice_get bs k ≢ Some b)
     → ((i j : ℕ) (x : Binder) → slice_get bs i ≡ Some x → slice_get bs j ≡ Some x → i ≡ j)

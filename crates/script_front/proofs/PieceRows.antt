@@ -1,5 +1,5 @@
 -- The row of pieces that a text is: it grows at its end, and there is one for a text.
-use Rattle.std.proofs.Common.{◌≡◌, ℕ, ◌+◌, ◌≤◌, List, [], ◌∷◌, ◌++◌, length, drop, refl, sym, ◌∙◌, ap, subst, append_assoc, append-nil, length-drop, arith}
+use Rattle.std.proofs.Common.{◌≡◌, ℕ, ◌+◌, ◌≤◌, List, [], ◌∷◌, ◌++◌, length, drop, refl, sym, ◌∙◌, ap, subst, append_assoc, append-nil, length-append, length-drop, arith, Option, None, Some}
 use Rattle.std.proofs.lemmas.List.{drop-drop, drop_all}
 use Rattle.std.proofs.lemmas.Grind.{flat_map-append}
 use Rattle.script_front.specs.declared.token.Token.{Token}
@@ -141,6 +141,16 @@ front_taken text rest at before after f is taken front kept =
 pub front_within : (text rest : List ℕ) (at : ℕ) (f : Front) → rest ≡ drop at text → IsFront rest f → at ≤ length text → at + f.length ≤ length text
 front_within text rest at f is front within =
     let within_rest = front.within in omega (arith, ap length is, length-drop at text)
+
+token_alone : (t : Option Token) → length (tokens_of t) ≤ 1
+token_alone None = omega arith
+token_alone (Some t) = omega arith
+
+-- a piece is at least as long as its tokens are many
+pub front_few : (rest : List ℕ) (f : Front) (old new : List Token) (at : ℕ) → IsFront rest f → new ≡ old ++ tokens_of f.token → length old ≤ at → length new ≤ at + f.length
+front_few rest f old new at front grown few =
+    let some = front.some in
+    omega (arith, ap length grown, length-append old (tokens_of f.token), token_alone f.token)
 
 -- at the end nothing is left
 pub taken_to_end : (text : List ℕ) (at : ℕ) (taken : List Token) → length text ≤ at → IsTaken text (drop at text) taken → IsTaken text [] taken

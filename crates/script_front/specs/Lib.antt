@@ -2,6 +2,7 @@ pub mod Forms
 pub mod Grammar
 pub mod Halts
 pub mod Lexemes
+pub mod Names
 pub mod Programs
 pub mod Script
 pub mod Shallow

@@ -1,10 +1,13 @@
 -- The sites of a script, and the numbers of their binders.
-use Rattle.std.specs.Prelude.{◌≡◌, ◌≢◌, ℕ, ◌+◌, max, Bool, true, ◌==◌, ◌&&◌, nat_le, List, [], ◌∷◌, ◌++◌, length, map, slice_get, Some}
+use Rattle.std.specs.Prelude.{◌≡◌, ◌≢◌, ℕ, ◌+◌, max, Bool, true, false, ◌==◌, ◌&&◌, nat_le, List, [], ◌∷◌, ◌++◌, length, map, slice_get, Some}
 use Rattle.std.specs.List.{flat_map}
 use Rattle.standard_binders.specs.declared.binder.Binder.{Binder}
-use Rattle.standard_binders.specs.declared.binder.Binder.TheVariants.{BinaryOperation}
-use Rattle.script_front.specs.declared.tree.Head.TheFolds.{fold-Expr}
+use Rattle.standard_binders.specs.declared.binder.Binder.TheVariants.{GetMember, SetMember, DeleteMember, BinaryOperation}
+use Rattle.script_front.specs.declared.tree.Head.{Head}
+use Rattle.script_front.specs.declared.tree.Head.TheFolds.{fold-Expr, fold-Head}
 use Rattle.script_front.specs.declared.tree.Head.TheOpen.{Head-F, Expr-F}
+use Rattle.script_front.specs.declared.tree.Suffix.{Suffix}
+use Rattle.script_front.specs.declared.tree.Suffix.TheVariants.{Member}
 use Rattle.script_front.specs.declared.tree.Stmt.{Stmt}
 use Rattle.script_front.specs.declared.tree.Stmt.TheVariants as stmt
 use Rattle.script_front.specs.declared.tree.Block.{Block}
@@ -14,17 +17,29 @@ use Rattle.script_front.specs.declared.tree.Expr.{Expr}
 
 -- the binders of an expression's sites, in the order of their tokens
 abbrev pub head_sites : Head-F (List Binder) (List Binder) → List Binder
-head_sites (Head-F.Int n) = []
 head_sites (Head-F.Binary op left right) = left ++ BinaryOperation op ∷ right
+head_sites _ = []
+
+-- a member's name has one, at which it is read
+abbrev pub suffix_site : Suffix → Binder
+suffix_site (Member n) = GetMember n false
 
 abbrev pub expr_layer_sites : Expr-F (List Binder) (List Binder) → List Binder
-expr_layer_sites e = e.head
+expr_layer_sites e = e.head ++ map suffix_site e.suffixes
 
 abbrev pub expr_sites : Expr → List Binder
 expr_sites e = fold-Expr (List Binder) (List Binder) head_sites expr_layer_sites e
 
+-- those of what it begins with
+abbrev pub sites_of_head : Head → List Binder
+sites_of_head h = fold-Head (List Binder) (List Binder) head_sites expr_layer_sites h
+
 abbrev pub stmt_sites : Stmt → List Binder
-stmt_sites (stmt.Print value) = expr_sites value
+stmt_sites (stmt.Let n e) = expr_sites e
+stmt_sites (stmt.Assign n e) = expr_sites e
+stmt_sites (stmt.SetMember target n e) = expr_sites target ++ SetMember n false ∷ expr_sites e
+stmt_sites (stmt.DeleteMember target n) = expr_sites target ++ DeleteMember n false ∷ []
+stmt_sites (stmt.Print e) = expr_sites e
 
 abbrev pub block_sites : Block → List Binder
 block_sites b = flat_map stmt_sites b.0

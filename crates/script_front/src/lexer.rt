@@ -45,6 +45,7 @@ impl<'a> From<AllocError> for Unlexed<'a> {
 pub fn lex(alloc: Global, text: &[char]) -> Result<Vec<Token>, Unlexed<'_>>
     ensures tokens { IfOk result (λ ts. AreTokens text.now ts.items) }
     ensures only { IfOk result (λ ts. (us : List Token) → AreTokens text.now us → us ≡ ts.items) }
+    ensures few { IfOk result (λ ts. length ts.items ≤ length text.now) }
     ensures stop { IfErr result (λ u. Unlexes text.now u) }
 {
     let mut tokens = Vec::new(alloc);

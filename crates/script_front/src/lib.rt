@@ -5,8 +5,10 @@ mod halt;
 mod laws;
 mod lexer;
 mod limits;
+mod names;
 mod numbering;
 mod parser;
+mod place;
 mod program;
 mod reading;
 mod shallow;
@@ -15,8 +17,11 @@ mod token;
 mod tree;
 
 pub use laws::trees_have_distinct_spellings;
-pub use limits::{MOST_BYTES, MOST_OPEN_BRACKETS, MOST_SITES};
+pub use limits::{
+    MOST_BINDERS, MOST_BYTES, MOST_LOCALS, MOST_OPEN_BRACKETS, MOST_SHARED, MOST_SITES, MOST_TASKS,
+};
+pub use place::Place;
 pub use program::Program;
 pub use reading::{ReadFault, ScriptRefused, read};
 pub use token::{Keyword, Symbol, Token};
-pub use tree::{Block, Expr, Head, Script, Stmt, Task};
+pub use tree::{Block, Expr, Head, Item, Script, Stmt, Suffix, Task};

@@ -1,4 +1,4 @@
-ghost use Rattle.std.specs.Prelude.{◌≡◌, List, true, IfOk, IsErrOf, IsUtf8};
+ghost use Rattle.std.specs.Prelude.{◌≡◌, ◌≤◌, List, true, length, IfOk, IsErrOf, IsUtf8};
 ghost use Rattle.std.specs.Str.{chars};
 ghost use Rattle.script_front.specs.declared.token.Token.{Token};
 ghost use Rattle.script_front.specs.declared.tree.Script.{Script};
@@ -7,6 +7,9 @@ ghost use Rattle.script_front.specs.Programs.{script_of};
 ghost use Rattle.script_front.specs.Script.{IsScript};
 ghost use Rattle.script_front.specs.Spelling.{spell};
 ghost use Rattle.script_front.specs.Written.{is_written};
+
+#[cfg(test)]
+mod tests;
 
 use crate::halt::Halt;
 use crate::lexer::{Unlexed, lex};
@@ -37,7 +40,8 @@ pub enum ReadFault {
     Memory,
 }
 
-const NOT_BUILT: ReadFault = ReadFault::Refused(ScriptRefused::NotBuilt);
+/// The refusal of a script.
+pub(crate) const NOT_BUILT: ReadFault = ReadFault::Refused(ScriptRefused::NotBuilt);
 
 impl From<AllocError> for ReadFault {
     ghost use Rattle.std.specs.Prelude.{◌≡◌};
@@ -72,6 +76,7 @@ pub fn read(alloc: Global, bytes: &[u8]) -> Result<Program, ReadFault>
 fn characters_of(alloc: Global, bytes: &[u8]) -> Result<Vec<char>, ReadFault>
     ensures text { IfOk result (λ _. IsUtf8 bytes.now) }
     ensures characters { IfOk result (λ cs. cs.items ≡ chars bytes.now) }
+    ensures few { IfOk result (λ cs. length cs.items ≤ length bytes.now) }
     ensures refused { IsErrOf result (ReadFault.Refused ScriptRefused.NotBuilt) → IsUtf8 bytes.now → ⊥ }
 {
     match str::from_utf8(bytes) {
@@ -84,6 +89,7 @@ fn characters_of(alloc: Global, bytes: &[u8]) -> Result<Vec<char>, ReadFault>
 fn tokens_of(alloc: Global, text: &[char]) -> Result<Vec<Token>, ReadFault>
     ensures tokens { IfOk result (λ ts. AreTokens text.now ts.items) }
     ensures only { IfOk result (λ ts. (us : List Token) → AreTokens text.now us → us ≡ ts.items) }
+    ensures few { IfOk result (λ ts. length ts.items ≤ length text.now) }
     ensures refused { IsErrOf result (ReadFault.Refused ScriptRefused.NotBuilt) → (ts : List Token) → AreTokens text.now ts → ⊥ }
 {
     match lex(alloc, text) {
@@ -95,8 +101,10 @@ fn tokens_of(alloc: Global, text: &[char]) -> Result<Vec<Token>, ReadFault>
 
 /// The script that the tokens spell; refused exactly where none does.
 fn script_of_tokens(alloc: Global, tokens: &[Token]) -> Result<Script, ReadFault>
+    requires { length tokens.now ≤ 1048576 }
     ensures spelled { IfOk result (λ s. spell s ≡ tokens.now) }
     ensures written { IfOk result (λ s. is_written s ≡ true) }
+    ensures only { IfOk result (λ s. (t : Script) → is_written t ≡ true → spell t ≡ tokens.now → t ≡ s) }
     ensures refused { IsErrOf result (ReadFault.Refused ScriptRefused.NotBuilt) → (s : Script) → is_written s ≡ true → spell s ≡ tokens.now → ⊥ }
 {
     match parse(alloc, tokens) {

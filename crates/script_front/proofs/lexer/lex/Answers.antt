@@ -1,5 +1,5 @@
 use Rattle.std.proofs.Common.{subst, sym}
-use Rattle.script_front.proofs.PieceRows.{IsTaken, front_taken, front_within, taken_to_end, taken_only, stops_at}
+use Rattle.script_front.proofs.PieceRows.{IsTaken, front_taken, front_few, front_within, taken_to_end, taken_only, stops_at}
 use Rattle.script_front.proofs.lexer.lex.Goals as goal
 
 pub returns-in-None-clause-stop : goal.returns-in-None-clause-stop
@@ -15,6 +15,7 @@ loop-at-preserved c =
       within = front_within c.args.text.now c.rest_of-rest.result.now c.loop-at.at c.in-Some.found c.rest_of-rest.ensures front c.loop-at.invariant.within;
       taken = front_taken c.args.text.now c.rest_of-rest.result.now c.loop-at.at c.loop-at.tokens.items c.keep.new.tokens.items c.in-Some.found
           c.rest_of-rest.ensures c.loop-at.invariant.taken front c.in_ok-keep-in-Some.ensures;
+      few = front_few c.rest_of-rest.result.now c.in-Some.found c.loop-at.tokens.items c.keep.new.tokens.items c.loop-at.at front c.in_ok-keep-in-Some.ensures c.loop-at.invariant.few;
     }
 
 pub returns-clause-only : goal.returns-clause-only

@@ -1,14 +1,24 @@
+use Rattle.std.proofs.Common.{sym, subst}
 use Rattle.script_front.specs.Grammar.{script_form}
 use Rattle.script_front.proofs.Exits.{exits}
-use Rattle.script_front.proofs.StatementSteps.{not_empty, task_halts, end_stops}
+use Rattle.script_front.proofs.ItemSteps.{ScriptRead, script_begin, script_halts, script_more, script_read, not_empty, is_empty}
 use Rattle.script_front.proofs.parser.parse.Goals as goal
 
-pub returns-in_err-task-clause-stop : goal.returns-in_err-task-clause-stop
-returns-in_err-task-clause-stop c =
-    exits script_form _ _ c.in_err-task.field-0.0 c.from_residual.ensures.1
-    (task_halts _ _ (not_empty _ _ c.is_empty.ensures c.if-is_empty.false) c.in_err-task.ensures.stop)
+pub row-init : goal.row-init
+row-init c = script_begin _ _ _ _ c.new.ensures c.new-2.ensures c.new-3.ensures
 
-pub returns-then-not-is_empty-clause-stop : goal.returns-then-not-is_empty-clause-stop
-returns-then-not-is_empty-clause-stop c =
-    end_stops (not_empty _ _ c.is_empty.ensures c.if-is_empty.false) c.in_ok-task.ensures.read
-    (not_empty _ _ c.is_empty-2.ensures c.if-not-is_empty.true)
+pub returns-in_err-declaration-clause-stop : goal.returns-in_err-declaration-clause-stop
+returns-in_err-declaration-clause-stop c =
+    exits script_form _ _ c.in_err-declaration.field-0.0 c.from_residual.ensures.1
+    (script_halts _ _ c.row.script _ c.row.invariant (not_empty _ _ c.is_empty.ensures c.row-test.true)
+    c.in_err-declaration.ensures.stop)
+
+pub row-preserved : goal.row-preserved
+row-preserved c =
+    subst (λ z. ScriptRead c.args.tokens.now z c.in_ok-declaration.more.now) (sym c.in_ok-add.ensures)
+    (script_more _ _ _ c.row.script c.in_ok-declaration.declaration c.row.invariant
+    (not_empty _ _ c.is_empty.ensures c.row-test.true) c.in_ok-declaration.ensures.read c.in_ok-declaration.ensures.shorter)
+
+pub returns-clause-read : goal.returns-clause-read
+returns-clause-read c =
+    script_read _ _ c.row.script c.row.invariant (is_empty _ _ c.is_empty.ensures c.row-test.false)

@@ -1,9 +1,9 @@
-use Rattle.std.proofs.Common.{◌≡◌, true, false, sym, ap, ◌∙◌, subst, arith, length}
+use Rattle.std.proofs.Common.{◌≡◌, true, false, sym, ap, ◌∙◌, subst}
 use Rattle.std.specs.Prelude.{Err}
+use Rattle.script_front.specs.Names.{AreNamed}
+use Rattle.script_front.specs.Script.{IsWithinLimits}
 use Rattle.script_front.specs.Shallow.{IsShallow}
-use Rattle.script_front.proofs.Refusals.{passed_on, spelled, no_tokens, few_tasks}
-use Rattle.script_front.proofs.StatementLaws.{script_unique}
-use Rattle.script_front.specs.Sites.{site_binders}
+use Rattle.script_front.proofs.Refusals.{passed_on, spelled, no_tokens}
 use Rattle.script_front.proofs.reading.read.Goals as goal
 
 pub returns-in_err-tokens-clause-refused : goal.returns-in_err-tokens-clause-refused
@@ -25,8 +25,5 @@ returns-in_err-script-clause-refused c = λ at s is.
 pub returns-clause-refused : goal.returns-clause-refused
 returns-clause-refused c = λ at s is.
     let same = spelled c.args.bytes.now c.as_slice.result.now c.in_ok-tokens.tokens.items s (c.as_slice.ensures.value ∙ c.in_ok-characters.ensures.characters) c.in_ok-tokens.ensures.only is in
-    let equal = script_unique s c.in_ok-script.script is.written c.in_ok-script.ensures.written (same ∙ sym c.as_slice-3.ensures.value ∙ sym c.in_ok-script.ensures.spelled) in
-    omega (arith, ap (λ z. length (site_binders z)) equal, is.few_sites, c.of.ensures.refused at)
-
-pub of-requires : goal.of-requires
-of-requires c = few_tasks c.in_ok-script.script c.in_ok-script.ensures.written
+    let equal = c.in_ok-script.ensures.only s is.written (same ∙ sym c.as_slice-3.ensures.value) in
+    c.of.ensures.refused at (subst AreNamed equal is.named) (subst IsWithinLimits equal is.limits)

@@ -12,8 +12,20 @@ bounds-binders-number c =
     let at_number = numbered_at (site_binders (script_of c.args.self.now)) c.sites.result.now (binders_of c.args.self.now) c.args.site (BinaryOperation Add) c.sites.ensures.numbering c.requires in
     slice_get_within c.binders.result.now (get_or c.sites.result.now c.args.site 0) _ (ap (λ z. slice_get z (get_or c.sites.result.now c.args.site 0)) c.binders.ensures ∙ at_number)
 
-pub returns : goal.returns
-returns c =
-    let at_number = numbered_at (site_binders (script_of c.args.self.now)) c.sites.result.now (binders_of c.args.self.now) c.args.site (BinaryOperation Add) c.sites.ensures.numbering c.requires in
-    slice_get-get_or (site_binders (script_of c.args.self.now)) c.args.site (BinaryOperation Add) c.requires
-    ∙ ap Some (sym (get_or_from_slice_get c.binders.result.now (get_or c.sites.result.now c.args.site 0) _ (BinaryOperation Add) (ap (λ z. slice_get z (get_or c.sites.result.now c.args.site 0)) c.binders.ensures ∙ at_number)))
+pub returns-clause-binder : goal.returns-clause-binder
+returns-clause-binder c =
+    let d = c.index-binders-number.result in
+    let at_number = numbered_at (site_binders (script_of c.args.self.now)) c.sites.result.now (binders_of c.args.self.now) c.args.site d c.sites.ensures.numbering c.requires in
+    slice_get-get_or (site_binders (script_of c.args.self.now)) c.args.site d c.requires
+    ∙ ap Some (sym (get_or_from_slice_get c.binders.result.now (get_or c.sites.result.now c.args.site 0) _ d (ap (λ z. slice_get z (get_or c.sites.result.now c.args.site 0)) c.binders.ensures ∙ at_number)))
+    ∙ ap Some (sym c.index-binders-number.is)
+
+pub returns-clause-number : goal.returns-clause-number
+returns-clause-number c =
+    let d = c.index-binders-number.result in
+    let at_number = numbered_at (site_binders (script_of c.args.self.now)) c.sites.result.now (binders_of c.args.self.now) c.args.site d c.sites.ensures.numbering c.requires in
+    let inside = slice_get_within c.binders.result.now (get_or c.sites.result.now c.args.site 0) _ (ap (λ z. slice_get z (get_or c.sites.result.now c.args.site 0)) c.binders.ensures ∙ at_number) in
+    ap (λ s. slice_get (binders_of c.args.self.now) (get_or s c.args.site 0)) (sym c.sites.ensures.sites)
+    ∙ ap (λ z. slice_get z (get_or c.sites.result.now c.args.site 0)) (sym c.binders.ensures)
+    ∙ slice_get-get_or c.binders.result.now (get_or c.sites.result.now c.args.site 0) d inside
+    ∙ ap Some (sym c.index-binders-number.is)

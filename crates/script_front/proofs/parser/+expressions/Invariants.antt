@@ -1,8 +1,0 @@
-use Rattle.std.proofs.Common.{length, ◌+◌, ◌*◌}
-use Rattle.script_front.proofs.parser.+expressions.Given as goal
-
-abbrev pub decreases-expr_at : goal.decreases-expr_at
-decreases-expr_at l = 2 * length l.tokens.now
-
-abbrev pub decreases-binary_at : goal.decreases-binary_at
-decreases-binary_at l = 2 * length l.tokens.now + 1
