@@ -1,107 +1,202 @@
--- What statements do follows from what each does, in order.
-use Rattle.std.proofs.Common.{◌≡◌, ℕ, ◌+◌, ◌<◌, ◌≤◌, List, [], ◌∷◌, length, drop, get_or, flat_map, Err, IfSome, refl, ap, sym, ◌∙◌, subst, length-append, arith}
-use Rattle.std.proofs.lemmas.List.{drop_more, drop_all}
-use Rattle.dyn_value.specs.declared.fault.Fault.{Fault as ValueFault}
-use Rattle.standard_binders.specs.declared.binder.Binder.{Binder}
-use Rattle.script_front.specs.declared.tree.Stmt.{Stmt}
-use Rattle.script_front.specs.declared.tree.Stmt.TheVariants.{Print}
-use Rattle.script_front.specs.Sites.{stmt_sites}
-use Rattle.program_eval.specs.declared.stop.Stop.{Stop}
-use Rattle.program_eval.specs.declared.stop.Stop.TheVariants.{Fault, Memory}
+-- What statements come to follows from what their parts come to.
+use Rattle.std.proofs.Common.{◌≡◌, ℕ, ◌+◌, ◌<◌, zero, suc, true, false, if◌then◌else◌, List, [], ◌∷◌, ◌++◌, length, get_or, slice_set, Some, refl, ap, sym, ◌∙◌, subst, arith}
+use Rattle.std.specs.List.{position}
+use Rattle.std.specs.Str.{bytes_eq}
+use Rattle.std.proofs.lemmas.List.Quantifiers.{position-Some}
+use Rattle.dyn_value.specs.declared.entry.Entry.{Entry}
+use Rattle.dyn_value.specs.declared.fault.Fault.{Fault}
+use Rattle.dyn_value.specs.declared.value.Value.{Value}
+use Rattle.dyn_value.specs.Texts.{plain}
+use Rattle.standard_binders.specs.declared.binder.Binder.TheVariants.{SetMember, DeleteMember}
+use Rattle.script_front.specs.declared.program.Program.{Program}
+use Rattle.script_front.specs.declared.tree.Expr.{Expr}
+use Rattle.script_front.specs.Names.{Names}
+use Rattle.script_front.specs.Sites.{expr_sites}
+use Rattle.program_eval.specs.declared.frame.Frame.{Frame}
 use Rattle.program_eval.specs.declared.world.Asked.{Asked}
-use Rattle.program_eval.specs.Runs.{Lines, Ending, Gives, Fails, State, Deed, plain_objects, and_then, stmt_part, stmts_part}
-use Rattle.program_eval.specs.Walks.{HasSites, Comes, stmt_deed, stmts_deed, code_ending}
-use Rattle.program_eval.proofs.Deeds.{comes_given, comes_then, comes_stopped}
-use Rattle.program_eval.proofs.Parts.{part_sites}
-use Rattle.program_eval.proofs.SiteLists.{sites_first, sites_second}
+use Rattle.program_eval.specs.Acts.{Local, State, Ending, Gives, Fails, Act, Ends, Prints, and_then, asks}
+use Rattle.program_eval.specs.Runs.{declares, assigns, ignored, with_local}
+use Rattle.program_eval.specs.Stores.{Lines, Teller}
+use Rattle.program_eval.specs.Walks.{Moment, moment, Grows, Comes, given_of, locals_of, state_of, expr_act, set_act, delete_act, print_act}
+use Rattle.program_eval.proofs.Comings.{comes_then, comes_stopped, comes_ended, comes_printed, grows_then, grows_same, begins_same}
+use Rattle.program_eval.proofs.Heads.{part_sites}
+use Rattle.program_eval.proofs.Locals.{same_either_way}
 
--- a statement has as many sites as binders stand at them
-stmt_part_sites : (x : Stmt) → (stmt_part plain_objects x).sites ≡ length (stmt_sites x)
-stmt_part_sites (Print e) = part_sites e
+-- further names name no value
+pub locals_of_more : (scope more : Names) (values : List Value) → length scope ≡ length values → locals_of (scope ++ more) values ≡ locals_of scope values
+locals_of_more [] [] [] count = refl
+locals_of_more [] (m ∷ ms) [] count = refl
+locals_of_more [] more (v ∷ vs) count = absurd (omega arith)
+locals_of_more (n ∷ ns) more [] count = absurd (omega arith)
+locals_of_more (n ∷ ns) more (v ∷ vs) count = ap (λ ls. let l : Local = record { name = n; value = v } in l ∷ ls) (locals_of_more ns more vs (omega arith))
 
--- what follows a statement, from this site on
-abbrev rest_then : List Stmt → ℕ → ℕ → Unit {0} → State (Unit {0}) → Deed (Unit {0}) (Unit {0})
-rest_then xs at levels _ after = (stmts_part plain_objects xs).from at levels after
+-- a declared local
+pub locals_of_declared : (scope : Names) (name : List ℕ) (values : List Value) (v : Value) → length scope ≡ length values
+    → locals_of (scope ++ name ∷ []) (values ++ v ∷ []) ≡ locals_of scope values ++ record { name = name; value = v } ∷ []
+locals_of_declared [] name [] v count = refl
+locals_of_declared [] name (w ∷ ws) v count = absurd (omega arith)
+locals_of_declared (n ∷ ns) name [] v count = absurd (omega arith)
+locals_of_declared (n ∷ ns) name (w ∷ ws) v count = ap (λ ls. let l : Local = record { name = n; value = w } in l ∷ ls) (locals_of_declared ns name ws v (omega arith))
 
-stmts_deed-cons : (x : Stmt) (xs : List Stmt) (site at levels turns : ℕ) (ending : Ending (Unit {0})) (a0 a2 : List Asked) (l0 l2 : Lines)
-    → at ≡ site + length (stmt_sites x)
-    → Comes (and_then (stmt_deed x site levels turns) (rest_then xs at levels)) ending turns a0 a2 l0 l2
-    → Comes (stmts_deed (x ∷ xs) site levels turns) ending turns a0 a2 l0 l2
-stmts_deed-cons x xs site at levels turns ending a0 a2 l0 l2 place =
-    subst (λ n. Comes (and_then (stmt_deed x site levels turns) (rest_then xs n levels)) ending turns a0 a2 l0 l2)
-    (place ∙ ap (λ n. site + n) (sym (stmt_part_sites x)))
+pub comes_value_stopped : (numbers : List ℕ) (act : Act Value) (next : Value → State → Act (Unit {0})) (f : Fault) (s1 s2 : State) (old new : Moment)
+    → s1 ≡ s2 → Comes numbers act (Fails f) s1 old new → Comes numbers (and_then act next) (Fails f) s2 old new
+comes_value_stopped numbers act next f s1 s2 old new same one =
+    subst (λ z. Comes numbers (and_then act next) (Fails f) z old new) same (comes_stopped numbers act next f s1 old new one)
 
-comes_first : (x : Stmt) (xs : List Stmt) (site at levels turns : ℕ) (ending : Ending (Unit {0})) (a0 a1 a2 : List Asked) (l0 l1 l2 : Lines)
-    → at ≡ site + length (stmt_sites x)
-    → Comes (stmt_deed x site levels turns) (Gives tt) turns a0 a1 l0 l1
-    → Comes (stmts_deed xs at levels turns) ending turns a1 a2 l1 l2
-    → Comes (stmts_deed (x ∷ xs) site levels turns) ending turns a0 a2 l0 l2
-comes_first x xs site at levels turns ending a0 a1 a2 l0 l1 l2 place one rest =
-    stmts_deed-cons x xs site at levels turns ending a0 a2 l0 l2 place
-    (comes_then (stmt_deed x site levels turns) (rest_then xs at levels) tt ending turns a0 a1 a2 l0 l1 l2 one rest)
+pub state_before : (scope : Names) (name : List ℕ) (frame : Frame) → length scope ≡ length frame.locals → state_of scope frame ≡ state_of (scope ++ name ∷ []) frame
+state_before scope name frame count = ap (λ ls. let s : State = record { turns = frame.turns; locals = ls } in s) (sym (locals_of_more scope (name ∷ []) frame.locals count))
 
-comes_first_stopped : (x : Stmt) (xs : List Stmt) (site levels turns : ℕ) (f : ValueFault) (a0 a1 : List Asked) (l0 l1 : Lines)
-    → Comes (stmt_deed x site levels turns) (Fails f) turns a0 a1 l0 l1
-    → Comes (stmts_deed (x ∷ xs) site levels turns) (Fails f) turns a0 a1 l0 l1
-comes_first_stopped x xs site levels turns f a0 a1 l0 l1 one =
-    stmts_deed-cons x xs site (site + length (stmt_sites x)) levels turns (Fails f) a0 a1 l0 l1 refl
-    (comes_stopped (stmt_deed x site levels turns) (rest_then xs (site + length (stmt_sites x)) levels) f turns a0 a1 l0 l1 one)
+-- a declared local, after its value
+pub comes_declared : (teller : Teller) (numbers : List ℕ) (act : Act Value) (scope : Names) (name : List ℕ) (frame : Frame) (left : ℕ) (values : List Value) (v : Value) (old new : Moment)
+    → length scope ≡ length frame.locals → left ≡ frame.turns → values ≡ frame.locals ++ v ∷ []
+    → Comes numbers act (Gives v) (state_of scope frame) old new → Comes numbers (and_then act (declares name)) (Gives tt) (record { turns = left; locals = locals_of (scope ++ name ∷ []) values }) old new
+comes_declared teller numbers act scope name frame left values v old new count turns more one =
+    let s2 : State = record { turns = frame.turns; locals = locals_of scope frame.locals ++ record { name = name; value = v } ∷ [] } in
+    subst (λ z. Comes numbers (and_then act (declares name)) (Gives tt) z old new)
+    (ap (λ ls. let s : State = record { turns = frame.turns; locals = ls } in s) (sym (locals_of_declared scope name frame.locals v count) ∙ ap (locals_of (scope ++ name ∷ [])) (sym more))
+    ∙ ap (λ n. let s : State = record { turns = n; locals = locals_of (scope ++ name ∷ []) values } in s) (sym turns))
+    (comes_then teller numbers act (declares name) v (state_of scope frame) s2 (Gives tt) old new new (grows_same teller new) one (comes_ended numbers (Gives tt) s2 new))
 
--- The statements before place i were executed, and the next has this site. What the others come to, all come
--- to.
-pub record Reached (binders : List Binder) (xs : List Stmt) (site levels : ℕ) (a0 a1 : List Asked) (l0 l1 : Lines) (i next : ℕ) : Type 0 where
-  pub sites : HasSites binders next (flat_map stmt_sites (drop i xs))
-  pub count : next + length (flat_map stmt_sites (drop i xs)) ≡ site + length (flat_map stmt_sites xs)
-  pub goes_on : (turns : ℕ) (ending : Ending (Unit {0})) (a2 : List Asked) (l2 : Lines)
-      → Comes (stmts_deed (drop i xs) next levels turns) ending turns a1 a2 l1 l2
-      → Comes (stmts_deed xs site levels turns) ending turns a0 a2 l0 l2
+pub grows_printed : (teller : Teller) (entries : ℕ → List Entry) (drawn : List ℕ) (asked : List Asked) (lines : Lines) (line : List ℕ)
+    → Grows teller (moment entries drawn asked lines) (moment entries drawn asked (lines ++ line ∷ []))
+grows_printed teller entries drawn asked lines line =
+    record { entries = λ object. begins_same (entries object); told = λ object. tt; drawn = begins_same drawn; asked = begins_same asked; lines = (line ∷ [], refl) }
 
-pub reached_start : (binders : List Binder) (xs : List Stmt) (site levels : ℕ) (a : List Asked) (l : Lines)
-    → HasSites binders site (flat_map stmt_sites xs) → Reached binders xs site levels a a l l 0 site
-reached_start binders xs site levels a l has = record { sites = has; count = refl; goes_on = λ turns ending a2 l2 h. h }
+-- a printed value
+pub comes_shown : (teller : Teller) (numbers : List ℕ) (program : Program) (limit : ℕ) (e : Expr) (site levels : ℕ) (s s1 : State) (v : Value) (line : List ℕ) (old : Moment) (entries : ℕ → List Entry) (drawn : List ℕ) (asked : List Asked) (lines lines_after : Lines)
+    → line ≡ plain v → lines_after ≡ lines ++ line ∷ []
+    → Comes numbers (expr_act program limit e site levels s) (Gives v) s1 old (moment entries drawn asked lines)
+    → Comes numbers (print_act program limit e site levels s) (Gives tt) s1 old (moment entries drawn asked lines_after)
+comes_shown teller numbers program limit e site levels s s1 v line old entries drawn asked lines lines_after shown more one =
+    subst (λ ls. Comes numbers (print_act program limit e site levels s) (Gives tt) s1 old (moment entries drawn asked ls)) (sym (more ∙ ap (λ l. lines ++ l ∷ []) shown))
+    (comes_then teller numbers (expr_act program limit e site levels s) (λ v after. Prints (plain v) (Ends (Gives tt) after)) v s1 s1 (Gives tt) old (moment entries drawn asked lines) (moment entries drawn asked (lines ++ plain v ∷ []))
+    (grows_printed teller entries drawn asked lines (plain v)) one (comes_printed numbers (Gives tt) s1 (plain v) entries drawn asked lines))
 
--- the statement at place i
-at_place : (xs : List Stmt) (i : ℕ) (x : Stmt) → i < length xs → x ≡ get_or xs i x → drop i xs ≡ x ∷ drop (i + 1) xs
-at_place xs i x inside is = drop_more xs i x inside ∙ ap (λ y. y ∷ drop (i + 1) xs) (sym is)
+pub comes_unshown : (numbers : List ℕ) (program : Program) (limit : ℕ) (e : Expr) (site levels : ℕ) (s s1 : State) (f : Fault) (old new : Moment)
+    → Comes numbers (expr_act program limit e site levels s) (Fails f) s1 old new → Comes numbers (print_act program limit e site levels s) (Fails f) s1 old new
+comes_unshown numbers program limit e site levels s s1 f old new one =
+    comes_stopped numbers (expr_act program limit e site levels s) (λ v after. Prints (plain v) (Ends (Gives tt) after)) f s1 old new one
 
-pub next_sites : (binders : List Binder) (xs : List Stmt) (site levels : ℕ) (a0 a1 : List Asked) (l0 l1 : Lines) (i next : ℕ) (x : Stmt)
-    → Reached binders xs site levels a0 a1 l0 l1 i next → i < length xs → x ≡ get_or xs i x → HasSites binders next (stmt_sites x)
-next_sites binders xs site levels a0 a1 l0 l1 i next x reached inside is =
-    sites_first binders next (stmt_sites x) (flat_map stmt_sites (drop (i + 1) xs))
-    (subst (λ ys. HasSites binders next (flat_map stmt_sites ys)) (at_place xs i x inside is) reached.sites)
+-- what follows the target of a `delete`
+abbrev delete_then : List ℕ → ℕ → Value → State → Act (Unit {0})
+delete_then name at object after = and_then (asks at (DeleteMember name false) (object ∷ []) after) ignored
 
-pub reached_next : (binders : List Binder) (xs : List Stmt) (site levels : ℕ) (a0 a1 a2 : List Asked) (l0 l1 l2 : Lines) (i next at : ℕ) (x : Stmt)
-    → Reached binders xs site levels a0 a1 l0 l1 i next → i < length xs → x ≡ get_or xs i x
-    → at ≡ next + length (stmt_sites x) → ((turns : ℕ) → Comes (stmt_deed x next levels turns) (Gives tt) turns a1 a2 l1 l2)
-    → Reached binders xs site levels a0 a2 l0 l2 (i + 1) at
-reached_next binders xs site levels a0 a1 a2 l0 l1 l2 i next at x reached inside is place one =
-    let rest : List Stmt = drop (i + 1) xs in
-    let split : drop i xs ≡ x ∷ rest = at_place xs i x inside is in
-    record {
-      sites = subst (λ n. HasSites binders n (flat_map stmt_sites rest)) (sym place)
-          (sites_second binders next (stmt_sites x) (flat_map stmt_sites rest) (subst (λ ys. HasSites binders next (flat_map stmt_sites ys)) split reached.sites));
-      count = omega (arith, place, reached.count, ap (λ ys. length (flat_map stmt_sites ys)) split, length-append (stmt_sites x) (flat_map stmt_sites rest));
-      goes_on = λ turns ending a3 l3 h. reached.goes_on turns ending a3 l3
-          (subst (λ ys. Comes (stmts_deed ys next levels turns) ending turns a1 a3 l1 l3) (sym split)
-          (comes_first x rest next at levels turns ending a1 a2 a3 l1 l2 l3 place (one turns) h));
-    }
+delete_acts : (program : Program) (limit : ℕ) (target : Expr) (name : List ℕ) (site at levels : ℕ) (s : State) → at ≡ site + length (expr_sites target)
+    → delete_act program limit target name site levels s ≡ and_then (expr_act program limit target site levels s) (delete_then name at)
+delete_acts program limit target name site at levels s place =
+    ap (λ n. and_then (expr_act program limit target site levels s) (delete_then name n)) (ap (λ n. site + n) (part_sites (given_of program limit) target) ∙ sym place)
 
-pub reached_end : (binders : List Binder) (xs : List Stmt) (site levels : ℕ) (a0 a1 : List Asked) (l0 l1 : Lines) (i next : ℕ)
-    → Reached binders xs site levels a0 a1 l0 l1 i next → length xs ≤ i
-    → (next ≡ site + length (flat_map stmt_sites xs)) × ((turns : ℕ) → Comes (stmts_deed xs site levels turns) (Gives tt) turns a0 a1 l0 l1)
-reached_end binders xs site levels a0 a1 l0 l1 i next reached past =
-    let none : drop i xs ≡ [] = drop_all i xs past in (
-      omega (arith, reached.count, ap (λ ys. length (flat_map stmt_sites ys)) none),
-      λ turns. reached.goes_on turns (Gives tt) a1 l1
-          (subst (λ ys. Comes (stmts_deed ys next levels turns) (Gives tt) turns a1 a1 l1 l1) (sym none) (comes_given tt turns a1 l1)),
-    )
+pub comes_delete_stopped : (numbers : List ℕ) (program : Program) (limit : ℕ) (target : Expr) (name : List ℕ) (site levels : ℕ) (s s1 : State) (f : Fault) (old new : Moment)
+    → Comes numbers (expr_act program limit target site levels s) (Fails f) s1 old new → Comes numbers (delete_act program limit target name site levels s) (Fails f) s1 old new
+comes_delete_stopped numbers program limit target name site levels s s1 f old new one =
+    subst (λ act. Comes numbers act (Fails f) s1 old new) (sym (delete_acts program limit target name site (site + length (expr_sites target)) levels s refl))
+    (comes_stopped numbers (expr_act program limit target site levels s) (delete_then name (site + length (expr_sites target))) f s1 old new one)
 
-pub reached_stop : (stop : Stop) (binders : List Binder) (xs : List Stmt) (site levels : ℕ) (a0 a1 a2 : List Asked) (l0 l1 l2 : Lines) (i next : ℕ) (x : Stmt)
-    → Reached binders xs site levels a0 a1 l0 l1 i next → i < length xs → x ≡ get_or xs i x
-    → IfSome (code_ending (Err stop)) (λ ending. (turns : ℕ) → Comes (stmt_deed x next levels turns) ending turns a1 a2 l1 l2)
-    → IfSome (code_ending (Err stop)) (λ ending. (turns : ℕ) → Comes (stmts_deed xs site levels turns) ending turns a0 a2 l0 l2)
-reached_stop (Fault f) binders xs site levels a0 a1 a2 l0 l1 l2 i next x reached inside is one = λ turns.
-    reached.goes_on turns (Fails f) a2 l2
-    (subst (λ ys. Comes (stmts_deed ys next levels turns) (Fails f) turns a1 a2 l1 l2) (sym (at_place xs i x inside is))
-    (comes_first_stopped x (drop (i + 1) xs) next levels turns f a1 a2 l1 l2 (one turns)))
-reached_stop Memory binders xs site levels a0 a1 a2 l0 l1 l2 i next x reached inside is one = tt
+pub comes_delete_failed : (teller : Teller) (numbers : List ℕ) (program : Program) (limit : ℕ) (target : Expr) (name : List ℕ) (site at levels : ℕ) (s s1 s2 : State) (v : Value) (f : Fault) (old middle new : Moment)
+    → at ≡ site + length (expr_sites target) → Comes numbers (expr_act program limit target site levels s) (Gives v) s1 old middle
+    → Grows teller middle new → Comes numbers (asks at (DeleteMember name false) (v ∷ []) s1) (Fails f) s2 middle new
+    → Comes numbers (delete_act program limit target name site levels s) (Fails f) s2 old new
+comes_delete_failed teller numbers program limit target name site at levels s s1 s2 v f old middle new place one grows asked =
+    subst (λ act. Comes numbers act (Fails f) s2 old new) (sym (delete_acts program limit target name site at levels s place))
+    (comes_then teller numbers (expr_act program limit target site levels s) (delete_then name at) v s1 s2 (Fails f) old middle new grows one
+    (comes_stopped numbers (asks at (DeleteMember name false) (v ∷ []) s1) ignored f s2 middle new asked))
+
+pub comes_deleted : (teller : Teller) (numbers : List ℕ) (program : Program) (limit : ℕ) (target : Expr) (name : List ℕ) (site at levels : ℕ) (s s1 s2 : State) (v w : Value) (old middle new : Moment)
+    → at ≡ site + length (expr_sites target) → Comes numbers (expr_act program limit target site levels s) (Gives v) s1 old middle
+    → Grows teller middle new → Comes numbers (asks at (DeleteMember name false) (v ∷ []) s1) (Gives w) s2 middle new
+    → Comes numbers (delete_act program limit target name site levels s) (Gives tt) s2 old new
+comes_deleted teller numbers program limit target name site at levels s s1 s2 v w old middle new place one grows asked =
+    subst (λ act. Comes numbers act (Gives tt) s2 old new) (sym (delete_acts program limit target name site at levels s place))
+    (comes_then teller numbers (expr_act program limit target site levels s) (delete_then name at) v s1 s2 (Gives tt) old middle new grows one
+    (comes_then teller numbers (asks at (DeleteMember name false) (v ∷ []) s1) ignored w s2 s2 (Gives tt) middle new new (grows_same teller new) asked (comes_ended numbers (Gives tt) s2 new)))
+
+-- what follows the target of a write, and its value
+abbrev write_then : List ℕ → ℕ → Value → Value → State → Act (Unit {0})
+write_then name at object v after = and_then (asks at (SetMember name false) (object ∷ v ∷ []) after) ignored
+
+abbrev value_then : Program → ℕ → List ℕ → Expr → ℕ → ℕ → Value → State → Act (Unit {0})
+value_then program limit name e at levels object after = and_then (expr_act program limit e (at + 1) levels after) (write_then name at object)
+
+set_acts : (program : Program) (limit : ℕ) (target : Expr) (name : List ℕ) (e : Expr) (site at levels : ℕ) (s : State) → at ≡ site + length (expr_sites target)
+    → set_act program limit target name e site levels s ≡ and_then (expr_act program limit target site levels s) (value_then program limit name e at levels)
+set_acts program limit target name e site at levels s place =
+    ap (λ n. and_then (expr_act program limit target site levels s) (value_then program limit name e n levels)) (ap (λ n. site + n) (part_sites (given_of program limit) target) ∙ sym place)
+
+pub comes_set_stopped : (numbers : List ℕ) (program : Program) (limit : ℕ) (target : Expr) (name : List ℕ) (e : Expr) (site levels : ℕ) (s s1 : State) (f : Fault) (old new : Moment)
+    → Comes numbers (expr_act program limit target site levels s) (Fails f) s1 old new → Comes numbers (set_act program limit target name e site levels s) (Fails f) s1 old new
+comes_set_stopped numbers program limit target name e site levels s s1 f old new one =
+    subst (λ act. Comes numbers act (Fails f) s1 old new) (sym (set_acts program limit target name e site (site + length (expr_sites target)) levels s refl))
+    (comes_stopped numbers (expr_act program limit target site levels s) (value_then program limit name e (site + length (expr_sites target)) levels) f s1 old new one)
+
+pub comes_value_failed : (teller : Teller) (numbers : List ℕ) (program : Program) (limit : ℕ) (target : Expr) (name : List ℕ) (e : Expr) (site at levels : ℕ) (s s1 s2 : State) (v : Value) (f : Fault) (old middle new : Moment)
+    → at ≡ site + length (expr_sites target) → Comes numbers (expr_act program limit target site levels s) (Gives v) s1 old middle
+    → Grows teller middle new → Comes numbers (expr_act program limit e (at + 1) levels s1) (Fails f) s2 middle new
+    → Comes numbers (set_act program limit target name e site levels s) (Fails f) s2 old new
+comes_value_failed teller numbers program limit target name e site at levels s s1 s2 v f old middle new place one grows two =
+    subst (λ act. Comes numbers act (Fails f) s2 old new) (sym (set_acts program limit target name e site at levels s place))
+    (comes_then teller numbers (expr_act program limit target site levels s) (value_then program limit name e at levels) v s1 s2 (Fails f) old middle new grows one
+    (comes_stopped numbers (expr_act program limit e (at + 1) levels s1) (write_then name at v) f s2 middle new two))
+
+pub comes_set_failed : (teller : Teller) (numbers : List ℕ) (program : Program) (limit : ℕ) (target : Expr) (name : List ℕ) (e : Expr) (site at levels : ℕ) (s s1 s2 s3 : State) (v w : Value) (f : Fault) (m0 m1 m2 m3 : Moment)
+    → at ≡ site + length (expr_sites target) → Comes numbers (expr_act program limit target site levels s) (Gives v) s1 m0 m1
+    → Grows teller m1 m2 → Comes numbers (expr_act program limit e (at + 1) levels s1) (Gives w) s2 m1 m2
+    → Grows teller m2 m3 → Comes numbers (asks at (SetMember name false) (v ∷ w ∷ []) s2) (Fails f) s3 m2 m3
+    → Comes numbers (set_act program limit target name e site levels s) (Fails f) s3 m0 m3
+comes_set_failed teller numbers program limit target name e site at levels s s1 s2 s3 v w f m0 m1 m2 m3 place one grows two grew asked =
+    subst (λ act. Comes numbers act (Fails f) s3 m0 m3) (sym (set_acts program limit target name e site at levels s place))
+    (comes_then teller numbers (expr_act program limit target site levels s) (value_then program limit name e at levels) v s1 s3 (Fails f) m0 m1 m3 (grows_then teller m1 m2 m3 grows grew) one
+    (comes_then teller numbers (expr_act program limit e (at + 1) levels s1) (write_then name at v) w s2 s3 (Fails f) m1 m2 m3 grew two
+    (comes_stopped numbers (asks at (SetMember name false) (v ∷ w ∷ []) s2) ignored f s3 m2 m3 asked)))
+
+pub comes_set : (teller : Teller) (numbers : List ℕ) (program : Program) (limit : ℕ) (target : Expr) (name : List ℕ) (e : Expr) (site at levels : ℕ) (s s1 s2 s3 : State) (v w x : Value) (m0 m1 m2 m3 : Moment)
+    → at ≡ site + length (expr_sites target) → Comes numbers (expr_act program limit target site levels s) (Gives v) s1 m0 m1
+    → Grows teller m1 m2 → Comes numbers (expr_act program limit e (at + 1) levels s1) (Gives w) s2 m1 m2
+    → Grows teller m2 m3 → Comes numbers (asks at (SetMember name false) (v ∷ w ∷ []) s2) (Gives x) s3 m2 m3
+    → Comes numbers (set_act program limit target name e site levels s) (Gives tt) s3 m0 m3
+comes_set teller numbers program limit target name e site at levels s s1 s2 s3 v w x m0 m1 m2 m3 place one grows two grew asked =
+    subst (λ act. Comes numbers act (Gives tt) s3 m0 m3) (sym (set_acts program limit target name e site at levels s place))
+    (comes_then teller numbers (expr_act program limit target site levels s) (value_then program limit name e at levels) v s1 s3 (Gives tt) m0 m1 m3 (grows_then teller m1 m2 m3 grows grew) one
+    (comes_then teller numbers (expr_act program limit e (at + 1) levels s1) (write_then name at v) w s2 s3 (Gives tt) m1 m2 m3 grew two
+    (comes_then teller numbers (asks at (SetMember name false) (v ∷ w ∷ []) s2) ignored x s3 s3 (Gives tt) m2 m3 m3 (grows_same teller m3) asked (comes_ended numbers (Gives tt) s3 m3))))
+
+-- an assigned local
+locals_of_assigned : (name : List ℕ) (scope : Names) (values : List Value) (k : ℕ) (w : Value) → length scope ≡ length values → k < length scope
+    → bytes_eq name (get_or scope k []) ≡ true → ((j : ℕ) → j < k → bytes_eq name (get_or scope j []) ≡ false)
+    → with_local name w (locals_of scope values) ≡ locals_of scope (slice_set values k w)
+locals_of_assigned name [] values k w count within is before = absurd (omega arith)
+locals_of_assigned name (n ∷ ns) [] k w count within is before = absurd (omega arith)
+locals_of_assigned name (n ∷ ns) (v ∷ vs) zero w count within is before =
+    ap (λ b. if b then (let l : Local = record { name = n; value = w } in l) ∷ locals_of ns vs else (let l : Local = record { name = n; value = v } in l) ∷ with_local name w (locals_of ns vs)) (same_either_way n name ∙ is)
+locals_of_assigned name (n ∷ ns) (v ∷ vs) (suc k) w count within is before =
+    ap (λ b. if b then (let l : Local = record { name = n; value = w } in l) ∷ locals_of ns vs else (let l : Local = record { name = n; value = v } in l) ∷ with_local name w (locals_of ns vs)) (same_either_way n name ∙ before 0 (omega arith))
+    ∙ ap (λ ls. let l : Local = record { name = n; value = v } in l ∷ ls) (locals_of_assigned name ns vs k w (omega arith) (omega arith) is (λ j less. before (suc j) (omega arith)))
+
+pub comes_assigned : (teller : Teller) (numbers : List ℕ) (act : Act Value) (scope : Names) (name : List ℕ) (frame : Frame) (left : ℕ) (values : List Value) (k : ℕ) (v : Value) (old new : Moment)
+    → length scope ≡ length frame.locals → position (bytes_eq name) scope ≡ Some k → left ≡ frame.turns → values ≡ slice_set frame.locals k v
+    → Comes numbers act (Gives v) (state_of scope frame) old new → Comes numbers (and_then act (assigns name)) (Gives tt) (record { turns = left; locals = locals_of scope values }) old new
+comes_assigned teller numbers act scope name frame left values k v old new count place turns more one =
+    let first = position-Some (bytes_eq name) scope k [] place in
+    let s2 : State = record { turns = frame.turns; locals = with_local name v (locals_of scope frame.locals) } in
+    subst (λ z. Comes numbers (and_then act (assigns name)) (Gives tt) z old new)
+    (ap (λ ls. let s : State = record { turns = frame.turns; locals = ls } in s) (locals_of_assigned name scope frame.locals k v count first.0 first.1 first.2 ∙ ap (locals_of scope) (sym more))
+    ∙ ap (λ n. let s : State = record { turns = n; locals = locals_of scope values } in s) (sym turns))
+    (comes_then teller numbers act (assigns name) v (state_of scope frame) s2 (Gives tt) old new new (grows_same teller new) one (comes_ended numbers (Gives tt) s2 new))
+
+pub count_kept : (scope : Names) (values left : List Value) → left ≡ values → length scope ≡ length values → length scope ≡ length left
+count_kept scope values left kept count = count ∙ ap length (sym kept)
+
+pub grows_more : (teller : Teller) (entries : ℕ → List Entry) (drawn : List ℕ) (asked : List Asked) (lines after : Lines) (line : List ℕ) → after ≡ lines ++ line ∷ []
+    → Grows teller (moment entries drawn asked lines) (moment entries drawn asked after)
+grows_more teller entries drawn asked lines after line more =
+    subst (λ ls. Grows teller (moment entries drawn asked lines) (moment entries drawn asked ls)) (sym more) (grows_printed teller entries drawn asked lines line)
+
+-- an expression from the same site and state under other names
+pub comes_value_from : (numbers : List ℕ) (program : Program) (limit : ℕ) (e : Expr) (site at levels : ℕ) (s s0 s1 : State) (ending : Ending Value) (old new : Moment)
+    → at ≡ site → s ≡ s0 → Comes numbers (expr_act program limit e at levels s0) ending s1 old new → Comes numbers (expr_act program limit e site levels s) ending s1 old new
+comes_value_from numbers program limit e site at levels s s0 s1 ending old new place same one =
+    subst (λ n. Comes numbers (expr_act program limit e n levels s) ending s1 old new) place (subst (λ z. Comes numbers (expr_act program limit e at levels z) ending s1 old new) (sym same) one)
+
+pub comes_value_failed_from : (numbers : List ℕ) (program : Program) (limit : ℕ) (e : Expr) (site at levels : ℕ) (next : Value → State → Act (Unit {0})) (f : Fault) (s s0 s1 : State) (old new : Moment)
+    → at ≡ site → s ≡ s0 → Comes numbers (expr_act program limit e at levels s0) (Fails f) s1 old new → Comes numbers (and_then (expr_act program limit e site levels s) next) (Fails f) s1 old new
+comes_value_failed_from numbers program limit e site at levels next f s s0 s1 old new place same one =
+    comes_stopped numbers (expr_act program limit e site levels s) next f s1 old new (comes_value_from numbers program limit e site at levels s s0 s1 (Fails f) old new place same one)

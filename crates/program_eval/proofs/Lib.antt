@@ -1,7 +1,12 @@
-pub mod Trees
-pub mod Deeds
-pub mod Parts
-pub mod SiteLists
-pub mod Evaluations
-pub mod Executions
-pub mod TaskRuns
+mod Answered
+mod Befores
+mod Comings
+mod Evaluations
+mod Executions
+mod Heads
+mod Locals
+mod MemberReads
+mod Parts
+mod StatementRuns
+mod TaskRuns
+pub mod TwoStores

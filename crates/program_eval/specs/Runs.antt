@@ -1,96 +1,58 @@
 -- What a task does, by recursion on its tree.
-use Rattle.std.specs.Prelude.{◌≡◌, ℕ, zero, suc, ◌+◌, List, [], ◌∷◌, ◌++◌, length, take, slice_get, Option, None, Some}
-use Rattle.std.specs.List.{flat_map}
-use Rattle.dyn_value.specs.declared.fault.Fault.{Fault}
-use Rattle.dyn_value.specs.declared.fault.Fault.TheVariants.{Depth}
-use Rattle.dyn_value.specs.declared.outcome.Outcome.{Outcome}
-use Rattle.dyn_value.specs.declared.outcome.Outcome.TheVariants as outcome
+use Rattle.std.specs.Prelude.{ℕ, zero, suc, ◌+◌, nat_lt, true, false, if◌then◌else◌, List, [], ◌∷◌, ◌++◌, length, take, slice_get, Option, None, Some}
+use Rattle.std.specs.List.{flat_map, position}
+use Rattle.std.specs.Str.{bytes_eq}
+use Rattle.dyn_value.specs.declared.fault.Fault.TheVariants.{Depth, HeapFull}
 use Rattle.dyn_value.specs.declared.value.Value.{Value}
 use Rattle.dyn_value.specs.declared.value.Value.TheVariants as value
 use Rattle.dyn_value.specs.Texts.{plain}
-use Rattle.standard_binders.specs.declared.binder.Binder.{Binder}
-use Rattle.standard_binders.specs.declared.binder.Binder.TheVariants.{BinaryOperation}
-use Rattle.standard_binders.specs.Steps.{plain_step}
+use Rattle.standard_binders.specs.declared.binder.Binder.TheVariants.{GetMember, SetMember, DeleteMember, BinaryOperation}
 use Rattle.script_front.specs.declared.tree.Head.TheFolds.{fold-Expr}
 use Rattle.script_front.specs.declared.tree.Head.TheOpen.{Head-F, Expr-F}
 use Rattle.script_front.specs.declared.tree.Expr.{Expr}
+use Rattle.script_front.specs.declared.tree.Suffix.{Suffix}
+use Rattle.script_front.specs.declared.tree.Suffix.TheVariants.{Member}
 use Rattle.script_front.specs.declared.tree.Stmt.{Stmt}
 use Rattle.script_front.specs.declared.tree.Stmt.TheVariants as stmt
 use Rattle.script_front.specs.declared.tree.Task.{Task}
 use Rattle.script_front.specs.declared.tree.Script.{Script}
+use Rattle.script_front.specs.Names.{Names}
 use Rattle.script_front.specs.Sites.{task_sites}
-use Rattle.program_eval.specs.declared.ended.Ended.{Ended}
-use Rattle.program_eval.specs.declared.ended.Ended.TheVariants as ended
-use Rattle.program_eval.specs.declared.world.Asked.{Asked}
+use Rattle.program_eval.specs.Acts.{Local, State, Act, Prints, Draws, gives, fails, and_then, asks}
 
-abbrev pub Lines : Type 0
-Lines = List (List ℕ)
+-- what a run is given beside the task: the shared names, and how many objects there may be
+pub record Given : Type 0 where
+  pub shared : Names
+  pub limit : ℕ
 
--- the second list is the first and what came after
-abbrev pub Begins : {A : Type 0} → List A → List A → Type 0
-Begins {A} old new = (more : List A) × (new ≡ old ++ more)
+-- the value of the local of this name
+abbrev pub local_value : List ℕ → List Local → Option Value
+local_value name [] = None
+local_value name (l ∷ ls) = if bytes_eq l.name name then Some l.value else local_value name ls
 
--- The objects of a run, in some form of store: what an operation gives on them, and which number a draw
--- gives. None is where this store has no answer.
-pub record Objects (Store : Type 0) : Type 0 where
-  pub operate : Store → Binder → List Value → Option (Outcome × Store)
-  pub draw : Store → Option (ℕ × Store)
+-- the locals with this value for the one of this name
+abbrev pub with_local : List ℕ → Value → List Local → List Local
+with_local name v [] = []
+with_local name v (l ∷ ls) = if bytes_eq l.name name then record { name = l.name; value = v } ∷ ls else l ∷ with_local name v ls
 
--- no objects: an operation gives what its operands determine
-abbrev pub plain_objects : Objects (Unit {0})
-plain_objects = record { operate = λ store binder operands. Some (plain_step binder operands, store); draw = λ store. None }
+abbrev pub local_or_shared : Option Value → Option ℕ → Value
+local_or_shared (Some v) place = v
+local_or_shared None (Some k) = value.Obj k
+local_or_shared None None = value.Nil
 
--- what a task's code goes on with: the turns that are left, and the objects
-pub record State (Store : Type 0) : Type 0 where
-  pub turns : ℕ
-  pub store : Store
-
--- what a part of the code came to: Off is where the store had no answer
-pub data Ending (A : Type 0) : Type 0 where
-  Gives : A → Ending A
-  Fails : Fault → Ending A
-  Off : Ending A
-
--- what a part of the code did: what it came to, what it left, the operations that it asked and the lines
--- that it printed
-pub record Deed (Store A : Type 0) : Type 0 where
-  pub ending : Ending A
-  pub state : State Store
-  pub asked : List Asked
-  pub lines : Lines
-
-abbrev pub gives : {Store A : Type 0} → A → State Store → Deed Store A
-gives a s = record { ending = Gives a; state = s; asked = []; lines = [] }
-
-abbrev pub fails : {Store A : Type 0} → Fault → State Store → Deed Store A
-fails f s = record { ending = Fails f; state = s; asked = []; lines = [] }
-
-abbrev pub prints : {Store : Type 0} → List ℕ → State Store → Deed Store (Unit {0})
-prints line s = record { ending = Gives tt; state = s; asked = []; lines = line ∷ [] }
-
-abbrev pub followed : {Store A B : Type 0} → Ending A → Deed Store A → (A → State Store → Deed Store B) → Deed Store B
-followed (Gives a) first next =
-    let second = next a first.state in
-    record { ending = second.ending; state = second.state; asked = first.asked ++ second.asked; lines = first.lines ++ second.lines }
-followed (Fails f) first next = record { ending = Fails f; state = first.state; asked = first.asked; lines = first.lines }
-followed Off first next = record { ending = Off; state = first.state; asked = first.asked; lines = first.lines }
-
--- one part after another, which comes where the first gave a value
-abbrev pub and_then : {Store A B : Type 0} → Deed Store A → (A → State Store → Deed Store B) → Deed Store B
-and_then first next = followed first.ending first next
+-- The value of a name: that of the local in scope, or else the shared object. The names of a script name something,
+-- so the last case is none.
+abbrev pub named : Names → List ℕ → State → Value
+named shared name s = local_or_shared (local_value name s.locals) (position (bytes_eq name) shared)
 
 -- a level is opened, where one is left
-abbrev pub within : {Store A : Type 0} → ℕ → State Store → (ℕ → Deed Store A) → Deed Store A
+abbrev pub within : {A : Type 0} → ℕ → State → (ℕ → Act A) → Act A
 within zero s go = fails Depth s
 within (suc levels) s go = go levels
 
-abbrev pub ending_of : Outcome → Ending Value
-ending_of (outcome.Value v) = Gives v
-ending_of (outcome.Fault f) = Fails f
-
-abbrev pub answered : {Store : Type 0} → ℕ → List Value → State Store → Option (Outcome × Store) → Deed Store Value
-answered site operands s None = record { ending = Off; state = s; asked = []; lines = [] }
-answered site operands s (Some a) = record { ending = ending_of a.0; state = record s { store = a.1 }; asked = record { site = site; operands = operands } ∷ []; lines = [] }
+-- an object of this number, where there may be so many
+abbrev pub made : ℕ → ℕ → State → Act Value
+made limit n s = if nat_lt n limit then gives (value.Obj n) s else fails HeapFull s
 
 -- a part of the code: how many sites it has, and what it does where the first of them has this number
 pub record Part (A : Type 0) : Type 0 where
@@ -98,67 +60,97 @@ pub record Part (A : Type 0) : Type 0 where
   pub from : ℕ → A
 
 -- what an expression does with so many levels left, from a state
-abbrev pub Evaluates : Type 0 → Type 0
-Evaluates Store = Part (ℕ → State Store → Deed Store Value)
+abbrev pub Evaluates : Type 0
+Evaluates = Part (ℕ → State → Act Value)
 
 -- what statements do
-abbrev pub Executes : Type 0 → Type 0
-Executes Store = Part (ℕ → State Store → Deed Store (Unit {0}))
+abbrev pub Executes : Type 0
+Executes = Part (ℕ → State → Act (Unit {0}))
 
-abbrev pub head_part : {Store : Type 0} → Objects Store → Head-F (Evaluates Store) (Evaluates Store) → Evaluates Store
-head_part objects (Head-F.Int n) = record { sites = 0; from = λ site levels s. gives (value.Int n) s }
-head_part objects (Head-F.Binary op l r) = record {
+abbrev pub head_part : Given → Head-F Evaluates Evaluates → Evaluates
+head_part given (Head-F.Int n) = record { sites = 0; from = λ site levels s. gives (value.Int n) s }
+head_part given Head-F.Nil = record { sites = 0; from = λ site levels s. gives value.Nil s }
+head_part given Head-F.True = record { sites = 0; from = λ site levels s. gives (value.Bool true) s }
+head_part given Head-F.False = record { sites = 0; from = λ site levels s. gives (value.Bool false) s }
+head_part given (Head-F.Name n) = record { sites = 0; from = λ site levels s. gives (named given.shared n s) s }
+head_part given Head-F.New = record { sites = 0; from = λ site levels s. Draws (λ n. made given.limit n s) }
+head_part given (Head-F.Binary op l r) = record {
   sites = l.sites + 1 + r.sites;
   from = λ site levels s. within levels s (λ inner.
       and_then (l.from site inner s) (λ left after_left.
       and_then (r.from (site + l.sites + 1) inner after_left) (λ right after_right.
-      answered (site + l.sites) (left ∷ right ∷ []) after_right (objects.operate after_right.store (BinaryOperation op) (left ∷ right ∷ [])))));
+      asks (site + l.sites) (BinaryOperation op) (left ∷ right ∷ []) after_right)));
 }
 
-abbrev pub layer_part : {Store : Type 0} → Expr-F (Evaluates Store) (Evaluates Store) → Evaluates Store
-layer_part e = e.head
+-- a value's members are read, one of the other
+abbrev pub suffixes_act : List Suffix → ℕ → Value → State → Act Value
+suffixes_act [] site v s = gives v s
+suffixes_act (Member n ∷ rest) site v s = and_then (asks site (GetMember n false) (v ∷ []) s) (λ w after. suffixes_act rest (site + 1) w after)
 
-abbrev pub expr_part : {Store : Type 0} → Objects Store → Expr → Evaluates Store
-expr_part {Store} objects e = fold-Expr (Evaluates Store) (Evaluates Store) (head_part objects) (layer_part {Store = Store}) e
-
-abbrev pub stmt_part : {Store : Type 0} → Objects Store → Stmt → Executes Store
-stmt_part objects (stmt.Print e) = record {
-  sites = (expr_part objects e).sites;
-  from = λ site levels s. and_then ((expr_part objects e).from site levels s) (λ v after. prints (plain v) after);
+abbrev pub layer_part : Expr-F Evaluates Evaluates → Evaluates
+layer_part e = record {
+  sites = e.head.sites + length e.suffixes;
+  from = λ site levels s. and_then (e.head.from site levels s) (λ v after. suffixes_act e.suffixes (site + e.head.sites) v after);
 }
 
-abbrev pub stmts_part : {Store : Type 0} → Objects Store → List Stmt → Executes Store
-stmts_part objects [] = record { sites = 0; from = λ site levels s. gives tt s }
-stmts_part objects (x ∷ xs) = record {
-  sites = (stmt_part objects x).sites + (stmts_part objects xs).sites;
+abbrev pub expr_part : Given → Expr → Evaluates
+expr_part given e = fold-Expr Evaluates Evaluates (head_part given) layer_part e
+
+-- the value is let go
+abbrev pub ignored : Value → State → Act (Unit {0})
+ignored v s = gives tt s
+
+abbrev pub declares : List ℕ → Value → State → Act (Unit {0})
+declares name v s = gives tt (record { turns = s.turns; locals = s.locals ++ record { name = name; value = v } ∷ [] })
+
+abbrev pub assigns : List ℕ → Value → State → Act (Unit {0})
+assigns name v s = gives tt (record { turns = s.turns; locals = with_local name v s.locals })
+
+abbrev pub stmt_part : Given → Stmt → Executes
+stmt_part given (stmt.Let n e) = record {
+  sites = (expr_part given e).sites;
+  from = λ site levels s. and_then ((expr_part given e).from site levels s) (declares n);
+}
+stmt_part given (stmt.Assign n e) = record {
+  sites = (expr_part given e).sites;
+  from = λ site levels s. and_then ((expr_part given e).from site levels s) (assigns n);
+}
+stmt_part given (stmt.SetMember target n e) = record {
+  sites = (expr_part given target).sites + 1 + (expr_part given e).sites;
   from = λ site levels s.
-      and_then ((stmt_part objects x).from site levels s) (λ _ after.
-      (stmts_part objects xs).from (site + (stmt_part objects x).sites) levels after);
+      and_then ((expr_part given target).from site levels s) (λ object after_target.
+      and_then ((expr_part given e).from (site + (expr_part given target).sites + 1) levels after_target) (λ v after_value.
+      and_then (asks (site + (expr_part given target).sites) (SetMember n false) (object ∷ v ∷ []) after_value) ignored));
+}
+stmt_part given (stmt.DeleteMember target n) = record {
+  sites = (expr_part given target).sites + 1;
+  from = λ site levels s.
+      and_then ((expr_part given target).from site levels s) (λ object after_target.
+      and_then (asks (site + (expr_part given target).sites) (DeleteMember n false) (object ∷ []) after_target) ignored);
+}
+stmt_part given (stmt.Print e) = record {
+  sites = (expr_part given e).sites;
+  from = λ site levels s. and_then ((expr_part given e).from site levels s) (λ v after. Prints (plain v) (gives tt after));
 }
 
--- what a task did, and how it ended: None is where the store had no answer
-pub record Run (Store : Type 0) : Type 0 where
-  pub lines : Lines
-  pub ended : Option Ended
-  pub asked : List Asked
-  pub store : Store
-
-abbrev pub ended_of : Ending (Unit {0}) → Option Ended
-ended_of (Gives a) = Some ended.Done
-ended_of (Fails f) = Some (ended.Faulted f)
-ended_of Off = None
-
-abbrev pub run_of : {Store : Type 0} → Deed Store (Unit {0}) → Run Store
-run_of d = record { lines = d.lines; ended = ended_of d.ending; asked = d.asked; store = d.state.store }
+abbrev pub stmts_part : Given → List Stmt → Executes
+stmts_part given [] = record { sites = 0; from = λ site levels s. gives tt s }
+stmts_part given (x ∷ xs) = record {
+  sites = (stmt_part given x).sites + (stmts_part given xs).sites;
+  from = λ site levels s.
+      and_then ((stmt_part given x).from site levels s) (λ _ after.
+      (stmts_part given xs).from (site + (stmt_part given x).sites) levels after);
+}
 
 -- the number of a task's first site
 abbrev pub first_site : Script → ℕ → ℕ
 first_site script task = length (flat_map task_sites (take task script.tasks))
 
-abbrev pub body_run : {Store : Type 0} → Objects Store → ℕ → ℕ → Store → Option Task → Run Store
-body_run objects site turns store None = record { lines = []; ended = None; asked = []; store = store }
-body_run objects site turns store (Some t) = run_of ((stmts_part objects t.body.0).from site 256 (record { turns = turns; store = store }))
+-- no local is in scope where a task begins, and 256 levels may be open at once
+abbrev pub body_act : Given → ℕ → ℕ → Option Task → Act (Unit {0})
+body_act given site turns None = gives tt (record { turns = turns; locals = [] })
+body_act given site turns (Some t) = (stmts_part given t.body.0).from site 256 (record { turns = turns; locals = [] })
 
--- the run of a task of the script, with so many turns, over a store; 256 levels may be open at once
-abbrev pub task_run : {Store : Type 0} → Objects Store → Script → ℕ → ℕ → Store → Run Store
-task_run objects script task turns store = body_run objects (first_site script task) turns store (slice_get script.tasks task)
+-- what the task of this number of the script does, with so many turns, where there may be so many objects
+abbrev pub task_act : Script → ℕ → ℕ → ℕ → Act (Unit {0})
+task_act script task turns limit = body_act (record { shared = script.shared; limit = limit }) (first_site script task) turns (slice_get script.tasks task)

@@ -3,9 +3,11 @@
 
 mod ended;
 mod expressions;
+mod extent;
+mod frame;
+mod operations;
 mod printed;
 mod running;
-mod sites;
 mod statements;
 mod stop;
 mod world;

@@ -1,0 +1,200 @@
+-- A run over what is left of a task's entries is the run over the objects' journals, which those entries extend.
+use Rattle.std.proofs.Common.{◌≡◌, ◌≢◌, ℕ, ◌+◌, Bool, true, false, if◌then◌else◌, ◌&&◌, nat_eq, List, [], ◌∷◌, ◌++◌, length, get_or, Option, None, Some, refl, sym, ap, ◌∙◌, subst, append_assoc, arith}
+use Rattle.std.proofs.lemmas.Bool.{and_parts, eqb-true}
+use Rattle.std.proofs.lemmas.Bool.Decides.{Decides-int_eq}
+use Rattle.std.proofs.lemmas.Slice.Eq.{bytes_eq-Decides}
+use Rattle.dyn_value.specs.declared.value.Value.TheVariants as value
+use Rattle.dyn_value.specs.Operations.{is_same}
+use Rattle.std.specs.List.{AllByRecursion}
+use Rattle.dyn_value.specs.declared.entry.Entry.{Entry}
+use Rattle.dyn_value.specs.declared.outcome.Outcome.{Outcome}
+use Rattle.dyn_value.specs.declared.value.Value.{Value}
+use Rattle.standard_binders.specs.declared.binder.Binder.{Binder}
+use Rattle.object_model.proofs.JournalLaws.{after-append}
+use Rattle.object_model.specs.Journals.{IsLegal, members_after, step_of}
+use Rattle.object_model.specs.Members.{Members}
+use Rattle.object_model.specs.Steps.{OnObject, on_object, plain_step}
+use Rattle.program_eval.specs.declared.world.Asked.{Asked}
+use Rattle.program_eval.specs.Acts.{Act, Ends, Prints, Asks, Draws}
+use Rattle.program_eval.specs.Worlds.{IsToldBy}
+use Rattle.program_eval.specs.Stores.{Run, Left, Journals, Teller, entry_of, updated, are_same, first_answers, first_drawn, goes_on, draws_on, outcome_on, after_asked, left_objects, journal_objects, run_over}
+
+-- these numbers come one after the other, from this one on
+abbrev pub AreFrom : ℕ → List ℕ → Type 0
+AreFrom next [] = Unit {0}
+AreFrom next (n ∷ ns) = (n ≡ next) × AreFrom (next + 1) ns
+
+-- what is left goes on legally where the journals end, and the numbers left are the next ones
+pub record Follows (teller : Teller) (left : Left) (journals : Journals) : Type 0 where
+  pub legal : (object : ℕ) → IsLegal teller.binders (members_after teller.binders [] (journals.entries object)) (left.entries object)
+  pub told : (object : ℕ) → AllByRecursion (IsToldBy teller) (left.entries object)
+  pub drawn : AreFrom journals.next left.drawn
+
+-- the two runs come to the same, and the journals took what was used up
+pub record AreAlike {A : Type 0} (one : Run Left A) (two : Run Journals A) (left : Left) (journals : Journals) : Type 0 where
+  pub came : two.came ≡ one.came
+  pub lines : two.lines ≡ one.lines
+  pub asked : two.asked ≡ one.asked
+  pub entries : (object : ℕ) → two.store.entries object ++ one.store.entries object ≡ journals.entries object ++ left.entries object
+  pub next : two.store.next + length one.store.drawn ≡ journals.next + length left.drawn
+
+same_value : (v w : Value) → is_same v w ≡ true → v ≡ w
+same_value value.Nil value.Nil h = refl
+same_value (value.Bool true) (value.Bool b) h = ap value.Bool (sym h)
+same_value (value.Bool false) (value.Bool false) h = refl
+same_value (value.Int a) (value.Int b) h = ap value.Int ((Decides-int_eq a b).0 h)
+same_value (value.Text s) (value.Text t) h = ap value.Text ((bytes_eq-Decides s t).0 h)
+same_value (value.Fun f) (value.Fun g) h = ap value.Fun (eqb-true f g h)
+same_value (value.Obj o) (value.Obj p) h = ap value.Obj (eqb-true o p h)
+same_value _ _ h = cc
+
+same_values : (vs ws : List Value) → are_same vs ws ≡ true → vs ≡ ws
+same_values [] [] h = refl
+same_values (v ∷ vs) (w ∷ ws) h = let parts = and_parts (is_same v w) (are_same vs ws) h in cc (same_value v w parts.0, same_values vs ws parts.1)
+same_values _ _ h = cc
+
+same_entry : (e f : Entry) → e.pass ≡ f.pass → e.task ≡ f.task → e.binder ≡ f.binder → e.operands ≡ f.operands → e.outcome ≡ f.outcome → e ≡ f
+same_entry e f pass task binder operands outcome = λ i. record { pass = pass i; task = task i; binder = binder i; operands = operands i; outcome = outcome i }
+
+-- the members of an object after its journal
+abbrev members_of : Teller → Journals → OnObject → Members
+members_of teller journals x = members_after teller.binders [] (journals.entries x.object)
+
+-- what an operation on an object gives over the journals
+abbrev outcome_by : Teller → ℕ → OnObject → Journals → Outcome
+outcome_by teller number x journals = (step_of teller.binders (members_of teller journals x) number x.operands).outcome
+
+-- the object's first entry left is used up
+abbrev used : Left → OnObject → List Entry → Left
+used left x es = record { entries = updated left.entries x.object es; drawn = left.drawn }
+
+-- the object's journal takes the entry
+abbrev taken : Journals → OnObject → Entry → Journals
+taken journals x e = record { entries = updated journals.entries x.object (journals.entries x.object ++ e ∷ []); next = journals.next }
+
+-- the journals give the first entry left
+first_gives : (teller : Teller) (number : ℕ) (x : OnObject) (left : Left) (journals : Journals) (e : Entry) (es : List Entry) → Follows teller left journals → left.entries x.object ≡ e ∷ es
+    → e.binder ≡ number → e.operands ≡ x.operands → outcome_by teller number x journals ≡ e.outcome
+first_gives teller number x left journals e es follows is binder operands =
+    let legal : IsLegal teller.binders (members_of teller journals x) (e ∷ es) = subst (IsLegal teller.binders (members_of teller journals x)) is (follows.legal x.object) in
+    sym (legal.0 ∙ ap (λ n. (step_of teller.binders (members_of teller journals x) n e.operands).outcome) binder
+    ∙ ap (λ vs. (step_of teller.binders (members_of teller journals x) number vs).outcome) operands)
+
+first_is : (teller : Teller) (number : ℕ) (x : OnObject) (left : Left) (journals : Journals) (e : Entry) (es : List Entry) → Follows teller left journals → left.entries x.object ≡ e ∷ es
+    → e.binder ≡ number → e.operands ≡ x.operands → entry_of teller number x (outcome_by teller number x journals) ≡ e
+first_is teller number x left journals e es follows is binder operands =
+    let told : AllByRecursion (IsToldBy teller) (e ∷ es) = subst (AllByRecursion (IsToldBy teller)) is (follows.told x.object) in
+    same_entry (entry_of teller number x (outcome_by teller number x journals)) e (sym told.0.0) (sym told.0.1) (sym binder) (sym operands)
+    (first_gives teller number x left journals e es follows is binder operands)
+
+legal_at : (teller : Teller) (x : OnObject) (left : Left) (journals : Journals) (e : Entry) (es : List Entry) (object : ℕ) (b : Bool) → Follows teller left journals → left.entries x.object ≡ e ∷ es
+    → IsLegal teller.binders (members_after teller.binders [] (if b then journals.entries x.object ++ e ∷ [] else journals.entries object)) (if b then es else left.entries object)
+legal_at teller x left journals e es object true follows is =
+    let legal : IsLegal teller.binders (members_of teller journals x) (e ∷ es) = subst (IsLegal teller.binders (members_of teller journals x)) is (follows.legal x.object) in
+    subst (λ ms. IsLegal teller.binders ms es) (sym (after-append teller.binders [] (journals.entries x.object) (e ∷ []))) legal.1
+legal_at teller x left journals e es object false follows is = follows.legal object
+
+told_at : (teller : Teller) (x : OnObject) (left : Left) (journals : Journals) (e : Entry) (es : List Entry) (object : ℕ) (b : Bool) → Follows teller left journals → left.entries x.object ≡ e ∷ es
+    → AllByRecursion (IsToldBy teller) (if b then es else left.entries object)
+told_at teller x left journals e es object true follows is = (subst (AllByRecursion (IsToldBy teller)) is (follows.told x.object)).1
+told_at teller x left journals e es object false follows is = follows.told object
+
+follows_on : (teller : Teller) (x : OnObject) (left : Left) (journals : Journals) (e : Entry) (es : List Entry) → Follows teller left journals → left.entries x.object ≡ e ∷ es
+    → Follows teller (used left x es) (taken journals x e)
+follows_on teller x left journals e es follows is = record {
+  legal = λ object. legal_at teller x left journals e es object (nat_eq object x.object) follows is;
+  told = λ object. told_at teller x left journals e es object (nat_eq object x.object) follows is;
+  drawn = follows.drawn;
+}
+
+joined_at : (x : OnObject) (left : Left) (journals : Journals) (e : Entry) (es : List Entry) (object : ℕ) (b : Bool) → nat_eq object x.object ≡ b → left.entries x.object ≡ e ∷ es
+    → (if b then journals.entries x.object ++ e ∷ [] else journals.entries object) ++ (if b then es else left.entries object) ≡ journals.entries object ++ left.entries object
+joined_at x left journals e es object true same is =
+    append_assoc (journals.entries x.object) (e ∷ []) es ∙ ap (λ ys. journals.entries x.object ++ ys) (sym is)
+    ∙ ap (λ n. journals.entries n ++ left.entries n) (sym (eqb-true object x.object same))
+joined_at x left journals e es object false same is = refl
+
+-- what a run needs of the acts that go on by an outcome
+abbrev GoesAlike : {A : Type 0} → Teller → (Outcome → Left → Run Left A) → (Outcome → Journals → Run Journals A) → Type 0
+GoesAlike teller one two = (o : Outcome) (left : Left) (journals : Journals) → Follows teller left journals → (one o left).came ≢ None → AreAlike (one o left) (two o journals) left journals
+
+used_alike : {A : Type 0} (teller : Teller) (a : Asked) (number : ℕ) (x : OnObject) (left : Left) (journals : Journals) (e : Entry) (es : List Entry)
+    (one : Outcome → Left → Run Left A) (two : Outcome → Journals → Run Journals A) → GoesAlike teller one two → Follows teller left journals → left.entries x.object ≡ e ∷ es
+    → e.binder ≡ number → e.operands ≡ x.operands → (one e.outcome (used left x es)).came ≢ None
+    → AreAlike (after_asked a (one e.outcome (used left x es)))
+    (after_asked a (two (outcome_by teller number x journals) (taken journals x (entry_of teller number x (outcome_by teller number x journals))))) left journals
+used_alike teller a number x left journals e es one two alike follows is binder operands more =
+    let f : Entry = entry_of teller number x (outcome_by teller number x journals) in
+    let same : f ≡ e = first_is teller number x left journals e es follows is binder operands in
+    let gives : outcome_by teller number x journals ≡ e.outcome = first_gives teller number x left journals e es follows is binder operands in
+    let r = alike e.outcome (used left x es) (taken journals x e) (follows_on teller x left journals e es follows is) more in
+    let all : AreAlike (after_asked a (one e.outcome (used left x es))) (after_asked a (two e.outcome (taken journals x e))) left journals = record {
+      came = r.came;
+      lines = r.lines;
+      asked = ap (λ rest. a ∷ rest) r.asked;
+      entries = λ object. r.entries object ∙ joined_at x left journals e es object (nat_eq object x.object) refl is;
+      next = r.next;
+    } in
+    subst (λ o. AreAlike (after_asked a (one e.outcome (used left x es))) (after_asked a (two o (taken journals x f))) left journals) (sym gives)
+    (subst (λ z. AreAlike (after_asked a (one e.outcome (used left x es))) (after_asked a (two e.outcome (taken journals x z))) left journals) (sym same) all)
+
+first_alike : {A : Type 0} (teller : Teller) (a : Asked) (number : ℕ) (binder : Binder) (x : OnObject) (left : Left) (journals : Journals) (e : Entry) (es : List Entry) (b : Bool)
+    (one : Outcome → Left → Run Left A) (two : Outcome → Journals → Run Journals A) → GoesAlike teller one two → Follows teller left journals → left.entries x.object ≡ e ∷ es
+    → (nat_eq e.binder number && are_same e.operands x.operands) ≡ b
+    → (goes_on a left one (if b then Some (e.outcome, used left x es) else None)).came ≢ None
+    → AreAlike (goes_on a left one (if b then Some (e.outcome, used left x es) else None)) (goes_on a journals two ((journal_objects teller).operate journals number binder x)) left journals
+first_alike teller a number binder x left journals e es true one two alike follows is test more =
+    let parts = and_parts (nat_eq e.binder number) (are_same e.operands x.operands) test in
+    used_alike teller a number x left journals e es one two alike follows is (eqb-true e.binder number parts.0) (same_values e.operands x.operands parts.1) more
+first_alike teller a number binder x left journals e es false one two alike follows is test more = absurd (more refl)
+
+entries_alike : {A : Type 0} (teller : Teller) (a : Asked) (number : ℕ) (binder : Binder) (x : OnObject) (left : Left) (journals : Journals) (es : List Entry)
+    (one : Outcome → Left → Run Left A) (two : Outcome → Journals → Run Journals A) → GoesAlike teller one two → Follows teller left journals → left.entries x.object ≡ es
+    → (goes_on a left one (first_answers left number x es)).came ≢ None
+    → AreAlike (goes_on a left one (first_answers left number x es)) (goes_on a journals two ((journal_objects teller).operate journals number binder x)) left journals
+entries_alike teller a number binder x left journals [] one two alike follows is more = absurd (more refl)
+entries_alike teller a number binder x left journals (e ∷ es) one two alike follows is more =
+    first_alike teller a number binder x left journals e es (nat_eq e.binder number && are_same e.operands x.operands) one two alike follows is refl more
+
+asked_alike : {A : Type 0} (teller : Teller) (a : Asked) (number : ℕ) (binder : Binder) (operands : List Value) (left : Left) (journals : Journals) (target : Option OnObject)
+    (one : Outcome → Left → Run Left A) (two : Outcome → Journals → Run Journals A) → GoesAlike teller one two → Follows teller left journals
+    → (goes_on a left one (outcome_on left_objects target number binder operands left)).came ≢ None
+    → AreAlike (goes_on a left one (outcome_on left_objects target number binder operands left)) (goes_on a journals two (outcome_on (journal_objects teller) target number binder operands journals)) left journals
+asked_alike teller a number binder operands left journals None one two alike follows more =
+    let r = alike (plain_step binder operands) left journals follows more in
+    record { came = r.came; lines = r.lines; asked = ap (λ rest. a ∷ rest) r.asked; entries = r.entries; next = r.next }
+asked_alike teller a number binder operands left journals (Some x) one two alike follows more =
+    entries_alike teller a number binder x left journals (left.entries x.object) one two alike follows refl more
+
+drawn_alike : {A : Type 0} (teller : Teller) (left : Left) (journals : Journals) (ns : List ℕ)
+    (one : ℕ → Left → Run Left A) (two : ℕ → Journals → Run Journals A)
+    → ((n : ℕ) (left : Left) (journals : Journals) → Follows teller left journals → (one n left).came ≢ None → AreAlike (one n left) (two n journals) left journals)
+    → Follows teller left journals → left.drawn ≡ ns → (draws_on left one (first_drawn left ns)).came ≢ None
+    → AreAlike (draws_on left one (first_drawn left ns)) (draws_on journals two ((journal_objects teller).draw journals)) left journals
+drawn_alike teller left journals [] one two alike follows is more = absurd (more refl)
+drawn_alike teller left journals (n ∷ ns) one two alike follows is more =
+    let from : AreFrom journals.next (n ∷ ns) = subst (AreFrom journals.next) is follows.drawn in
+    let rest : Left = record { entries = left.entries; drawn = ns } in
+    let on : Journals = record { entries = journals.entries; next = journals.next + 1 } in
+    let goes : Follows teller rest on = record { legal = follows.legal; told = follows.told; drawn = from.1 } in
+    let r = alike n rest on goes more in
+    let all : AreAlike (one n rest) (two n on) left journals = record { came = r.came; lines = r.lines; asked = r.asked; entries = r.entries; next = omega (arith, r.next, ap length is) } in
+    subst (λ k. AreAlike (one n rest) (two k on) left journals) from.0 all
+
+-- A run over what is left of entries and numbers, which go on legally where the journals end, is the run over the
+-- journals, and these take what it used up.
+pub two_stores : {A : Type 0} (teller : Teller) (numbers : List ℕ) (act : Act A) (left : Left) (journals : Journals) → Follows teller left journals
+    → (run_over left_objects numbers act left).came ≢ None
+    → AreAlike (run_over left_objects numbers act left) (run_over (journal_objects teller) numbers act journals) left journals
+two_stores teller numbers (Ends ending s) left journals follows more = record { came = refl; lines = refl; asked = refl; entries = λ object. refl; next = refl }
+two_stores teller numbers (Prints line act) left journals follows more =
+    let r = two_stores teller numbers act left journals follows more in
+    record { came = r.came; lines = ap (λ ls. line ∷ ls) r.lines; asked = r.asked; entries = r.entries; next = r.next }
+two_stores teller numbers (Asks site binder operands act) left journals follows more =
+    asked_alike teller (record { site = site; operands = operands }) (get_or numbers site 0) binder operands left journals (on_object binder operands)
+    (λ o store. run_over left_objects numbers (act o) store) (λ o store. run_over (journal_objects teller) numbers (act o) store)
+    (λ o left journals follows more. two_stores teller numbers (act o) left journals follows more) follows more
+two_stores teller numbers (Draws act) left journals follows more =
+    drawn_alike teller left journals left.drawn
+    (λ n store. run_over left_objects numbers (act n) store) (λ n store. run_over (journal_objects teller) numbers (act n) store)
+    (λ n left journals follows more. two_stores teller numbers (act n) left journals follows more) follows refl more
