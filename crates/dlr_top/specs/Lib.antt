@@ -1,6 +1,9 @@
 pub mod Clean
+pub mod Commands
 pub mod Devices
 pub mod Edges
 pub mod Headline
 pub mod Lawful
+pub mod Recorded
 pub mod Rendering
+pub mod TaskRuns

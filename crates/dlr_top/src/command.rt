@@ -1,8 +1,9 @@
-ghost use Rattle.std.specs.Prelude.{◌≡◌, ◌≢◌, ◌≤◌, ◌↔◌, ◌⊎◌, IsSome, IfSome};
+ghost use Rattle.std.specs.Prelude.{◌≡◌, ◌≢◌, ◌≤◌, ◌↔◌, ◌⊎◌, None, IsSome, IfSome};
 ghost use Rattle.script_front.specs.declared.tree.Script.{Script};
 ghost use Rattle.script_front.specs.Script.{IsScript};
+ghost use Rattle.dlr_top.specs.Commands.{command_of};
 ghost use Rattle.dlr_top.specs.Devices.{Rose, Adds, AddsFirst, IsReadThrough};
-ghost use Rattle.dlr_top.specs.Headline.{Reports, run_words};
+ghost use Rattle.dlr_top.specs.Headline.{Reports};
 ghost use Rattle.dlr_top.specs.Rendering.{usage_text, refusal_text};
 
 use crate::execution::execute;
@@ -13,7 +14,7 @@ use crate::report::Report;
 use crate::sink::Sink;
 use crate::source::Source;
 use crate::status;
-use crate::words::is_run;
+use crate::words::read_words;
 use dyn_value::DynText;
 use std::alloc::Global;
 use std::sync::Wait;
@@ -68,10 +69,10 @@ pub fn top<R: Threads + Wait, S: Source, K: Sink, G: Gate>(
 ) -> TopOutcome
     ensures status { result.status ≤ 6 }
 
-    // The words: none but the one word `run` are a command. Then nothing is read.
-    ensures words_refused { result.status ≡ 2 → words.now ≢ run_words }
-    ensures words_taken { words.now ≢ run_words → (result.status ≡ 2) ⊎ (result.status ≡ 3) }
-    ensures words_unread { words.now ≢ run_words → (S.held source.new ≡ S.held source.old) × (S.faults source.new ≡ S.faults source.old) }
+    // The words: where they are no command, nothing is read.
+    ensures words_refused { result.status ≡ 2 → command_of words.now ≡ None }
+    ensures words_taken { command_of words.now ≡ None → (result.status ≡ 2) ⊎ (result.status ≡ 3) }
+    ensures words_unread { command_of words.now ≡ None → (S.held source.new ≡ S.held source.old) × (S.faults source.new ≡ S.faults source.old) }
     ensures usage { result.status ≡ 2 → AddsFirst (K.has sink.old) (K.has sink.new) usage_text }
     ensures usage_whole { result.status ≡ 2 → (Rose (K.faults sink.old) (K.faults sink.new) → ⊥) → Adds (K.has sink.old) (K.has sink.new) usage_text }
 
@@ -85,24 +86,25 @@ pub fn top<R: Threads + Wait, S: Source, K: Sink, G: Gate>(
 
     // The script is refused exactly where the bytes are none.
     ensures refused { result.status ≡ 6 → IfSome (S.held source.old) (λ bytes. (script : Script) → IsScript bytes script → ⊥) }
-    ensures refuses { words.now ≡ run_words → (Rose (S.faults source.old) (S.faults source.new) → ⊥) → IfSome (S.held source.old) (λ bytes. ((script : Script) → IsScript bytes script → ⊥) → (result.status ≡ 6) ⊎ (result.status ≡ 3)) }
+    ensures refuses { IsSome (command_of words.now) → (Rose (S.faults source.old) (S.faults source.new) → ⊥) → IfSome (S.held source.old) (λ bytes. ((script : Script) → IsScript bytes script → ⊥) → (result.status ≡ 6) ⊎ (result.status ≡ 3)) }
     ensures refusal { result.status ≡ 6 → AddsFirst (K.has sink.old) (K.has sink.new) refusal_text }
     ensures refusal_whole { result.status ≡ 6 → (Rose (K.faults sink.old) (K.faults sink.new) → ⊥) → Adds (K.has sink.old) (K.has sink.new) refusal_text }
 
-    // The headline: a lawful report of the script that was read, and its text in the sink.
+    // The headline: a lawful report of the script that was read, which is that of its tasks one after the other,
+    // and its text in the sink.
     ensures reported { IsSome result.report ↔ ((result.status ≡ 0) ⊎ (result.status ≡ 1) ⊎ (result.status ≡ 5)) }
-    ensures report { IfSome result.report (λ report. Reports result.status (S.held source.old) (K.has sink.old) (K.has sink.new) report) }
+    ensures report { IfSome result.report (λ report. Reports result.status words.now (S.held source.old) (K.has sink.old) (K.has sink.new) report) }
     ensures sink_failed { result.status ≡ 5 → Rose (K.faults sink.old) (K.faults sink.new) }
 
     // A script whose source and sink do not fail is run, unless memory is refused.
-    ensures complete { words.now ≡ run_words → (Rose (S.faults source.old) (S.faults source.new) → ⊥) → (Rose (K.faults sink.old) (K.faults sink.new) → ⊥) → IfSome (S.held source.old) (λ bytes. (script : Script) → IsScript bytes script → (result.status ≡ 0) ⊎ (result.status ≡ 1) ⊎ (result.status ≡ 3)) }
+    ensures complete { IsSome (command_of words.now) → (Rose (S.faults source.old) (S.faults source.new) → ⊥) → (Rose (K.faults sink.old) (K.faults sink.new) → ⊥) → IfSome (S.held source.old) (λ bytes. (script : Script) → IsScript bytes script → (result.status ≡ 0) ⊎ (result.status ≡ 1) ⊎ (result.status ≡ 3)) }
 {
     let _gate = gate;
-    if !is_run(words) {
+    let Some(options) = read_words(words) else {
         return TopOutcome::without_report(announce(sink, USAGE, status::WORDS_REFUSED));
-    }
+    };
     match load(alloc, source) {
-        Ok(program) => execute(rt, alloc, &program, sink),
+        Ok(program) => execute(rt, alloc, &program, &options, sink),
         Err(Unloaded::SourceFailed) => TopOutcome::without_report(status::SOURCE_FAILED),
         Err(Unloaded::Refused) => {
             TopOutcome::without_report(announce(sink, REFUSAL, status::REFUSED))

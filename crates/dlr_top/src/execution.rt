@@ -1,9 +1,10 @@
-ghost use Rattle.std.specs.Prelude.{◌≡◌, ◌↔◌, ◌⊎◌, List, ℕ, Option, IsTrue, IsSome, IfSome, IfOk, encode_utf8_all};
+ghost use Rattle.std.specs.Prelude.{◌≡◌, ◌↔◌, ◌⊎◌, List, ℕ, Option, Some, IsTrue, IsSome, IfSome, IfOk, encode_utf8_all};
 ghost use Rattle.script_front.specs.Programs.{script_of};
 ghost use Rattle.script_front.specs.Script.{IsScript};
+ghost use Rattle.dlr_top.specs.Commands.{command_of};
 ghost use Rattle.dlr_top.specs.Devices.{Rose};
 ghost use Rattle.dlr_top.specs.Headline.{Reports, SomeFaulted};
-ghost use Rattle.dlr_top.specs.Lawful.{IsLawful};
+ghost use Rattle.dlr_top.specs.Lawful.{IsLawful, IsSerial};
 ghost use Rattle.dlr_top.specs.Rendering.{report_text};
 
 use crate::command::TopOutcome;
@@ -13,6 +14,7 @@ use crate::report::Report;
 use crate::sink::Sink;
 use crate::status;
 use crate::tasks::run_tasks;
+use crate::words::Options;
 use program_eval::Ended;
 use script_front::Program;
 use std::alloc::{AllocError, Global};
@@ -23,15 +25,16 @@ pub(crate) fn execute<R: Wait, K: Sink>(
     rt: &R,
     alloc: Global,
     program: &Program,
+    options: &Options,
     sink: &mut K,
 ) -> TopOutcome
     ensures status { (result.status ≡ 0) ⊎ (result.status ≡ 1) ⊎ (result.status ≡ 3) ⊎ (result.status ≡ 5) }
     ensures reported { IsSome result.report ↔ ((result.status ≡ 0) ⊎ (result.status ≡ 1) ⊎ (result.status ≡ 5)) }
-    ensures report { IfSome result.report (λ report. (held : Option (List ℕ)) → IfSome held (λ bytes. IsScript bytes (script_of program.now)) → Reports result.status held (K.has sink.old) (K.has sink.new) report) }
+    ensures report { IfSome result.report (λ report. (held : Option (List ℕ)) (words : List (List ℕ)) → IfSome held (λ bytes. IsScript bytes (script_of program.now)) → command_of words ≡ Some options.now → Reports result.status words held (K.has sink.old) (K.has sink.new) report) }
     ensures memory { result.status ≡ 3 → (K.has sink.new ≡ K.has sink.old) × (K.faults sink.new ≡ K.faults sink.old) }
     ensures sink_failed { result.status ≡ 5 → Rose (K.faults sink.old) (K.faults sink.new) }
 {
-    let (report, text) = match run_and_render(rt, alloc, program) {
+    let (report, text) = match run_and_render(rt, alloc, program, options) {
         Ok(run) => run,
         Err(AllocError) => return TopOutcome::without_report(status::MEMORY),
     };
@@ -47,13 +50,15 @@ fn run_and_render<R: Wait>(
     rt: &R,
     alloc: Global,
     program: &Program,
+    options: &Options,
 ) -> Result<(Report, Vec<u8>), AllocError>
-    ensures lawful { IfOk result (λ run. IsLawful (script_of program.now) run.0) }
-    ensures text { IfOk result (λ run. run.1.items ≡ encode_utf8_all (report_text (script_of program.now) run.0)) }
+    ensures lawful { IfOk result (λ run. IsLawful program.now run.0) }
+    ensures serial { IfOk result (λ run. IsSerial program.now run.0) }
+    ensures text { IfOk result (λ run. run.1.items ≡ encode_utf8_all (report_text program.now options.now run.0)) }
 {
     let report = run_tasks(rt, alloc, program)?;
     let mut text = Vec::new(alloc);
-    render(program, &report, &mut text)?;
+    render(program, options, &report, &mut text)?;
     Ok((report, text))
 }
 

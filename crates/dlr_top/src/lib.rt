@@ -4,13 +4,16 @@
 mod clean_sink;
 mod clean_source;
 mod command;
+mod entries;
 mod execution;
 mod gate;
 mod input_source;
 mod intake;
+mod journals;
 mod loading;
 mod output;
 mod output_sink;
+mod plain_object;
 mod plain_world;
 mod rendering;
 mod report;
@@ -20,6 +23,7 @@ mod status;
 mod tasks;
 #[cfg(test)]
 mod tests;
+mod texts;
 mod words;
 
 pub use clean_sink::CleanSink;
@@ -35,3 +39,4 @@ pub use source::{Failed, Source};
 pub use status::{
     ALL_DONE, MEMORY, REFUSED, SINK_FAILED, SOURCE_FAILED, TASK_FAULTED, WORDS_REFUSED,
 };
+pub use words::Options;

@@ -1,16 +1,18 @@
-use dyn_value::DynText;
+use dyn_value::{DynText, Entry};
 use program_eval::Ended;
 use sqlite_items::Items;
 
-/// How a task ended, and what it printed.
+/// How a task ended, what it printed, and the numbers that it drew for new objects.
 #[derive(Debug, Drop)]
 pub struct TaskEnd {
     pub lines: Items<DynText>,
     pub ended: Ended,
+    pub drawn: Items<u64>,
 }
 
-/// What a run came to: an end for each task, in script order.
+/// What a run came to: an end for each task, in script order, and a journal for each object, made or not.
 #[derive(Debug, Drop)]
 pub struct Report {
     pub tasks: Items<TaskEnd>,
+    pub journals: Items<Items<Entry>>,
 }

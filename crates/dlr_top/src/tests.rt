@@ -119,11 +119,16 @@ fn words(alloc: Global, texts: &[&str]) -> Result<Vec<DynText>, AllocError> {
 #[test]
 fn words_that_are_no_command_give_the_usage_line(rt: HostRuntime) -> Result<(), Fail> {
     let alloc = rt.alloc();
-    let cases: [(&[&str], u64, &str); 6] = [
+    let cases: [(&[&str], u64, &str); 11] = [
         (&[], NEVER, USAGE),
         (&["ran"], NEVER, USAGE),
         (&["run", "run"], NEVER, USAGE),
         (&[""], NEVER, USAGE),
+        (&["--journal"], NEVER, USAGE),
+        (&["--serial", "run"], NEVER, USAGE),
+        (&["run", "--serial", "--serial"], NEVER, USAGE),
+        (&["run", "--journal", "--serial", "--journal"], NEVER, USAGE),
+        (&["run", "--journal", "--stats"], NEVER, USAGE),
         // The writes take 1, 2 and 3 bytes before the fourth fails.
         (&["check"], 3, "usage:"),
         (&["Run"], 0, ""),
@@ -244,6 +249,58 @@ fn a_reader_and_a_writer_serve_the_command(rt: HostRuntime) -> Result<(), Fail> 
     );
     assert_eq!(rt; outcome.status, WORDS_REFUSED);
     assert_eq!(rt; written.as_slice(), USAGE.as_bytes());
+    Ok(())
+}
+
+// Two tasks over two shared objects and one that is made.
+const OBJECTS: &str = "shared o; shared p;
+task a { o.x = 1; o.y = (2 + 3); print o.x; let n = new(); n.up = o; print n; }
+task b { delete o.x; o.x = p; print p.z; }";
+
+const LINES: &str = "a: 1\na: obj#2\nb! NoMember \"z\"\n";
+
+const JOURNALS: &str = "object 0
+  a SetMember \"x\" 1 -> nil
+  a SetMember \"y\" 5 -> nil
+  a GetMember \"x\" -> 1
+  b DeleteMember \"x\" -> nil
+  b SetMember \"x\" obj#1 -> nil
+  members \"y\" 5, \"x\" obj#1
+object 1
+  b GetMember \"z\" -> ! NoMember \"z\"
+  members
+object 2
+  a SetMember \"up\" obj#0 -> nil
+  members \"up\" obj#0
+";
+
+#[test]
+fn journals_are_written_where_they_are_asked_for(rt: HostRuntime) -> Result<(), Fail> {
+    let alloc = rt.alloc();
+    let cases: [(&[&str], &str); 5] = [
+        (&["run"], ""),
+        (&["run", "--serial"], ""),
+        (&["run", "--journal"], JOURNALS),
+        (&["run", "--journal", "--serial"], JOURNALS),
+        (&["run", "--serial", "--journal"], JOURNALS),
+    ];
+    for (texts, journals) in cases {
+        let words = words(alloc, texts)?;
+        let mut source = slow_source(alloc, OBJECTS, NEVER)?;
+        let mut sink = slow_sink(alloc, NEVER);
+        let outcome = top(
+            &rt,
+            alloc,
+            words.as_slice(),
+            &mut source,
+            &mut sink,
+            &OpenGate,
+        );
+        let mut want = Vec::from_slice(alloc, LINES.as_bytes())?;
+        want.extend_from_slice(journals.as_bytes())?;
+        assert_eq!(rt; outcome.status, TASK_FAULTED);
+        assert_eq!(rt; sink.clean.bytes(), want.as_slice());
+    }
     Ok(())
 }
 

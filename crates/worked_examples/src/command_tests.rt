@@ -77,19 +77,107 @@ fn scripts(rt: HostRuntime) -> Result<(), Fail> {
         ),
         ("task a { print 007; }", "refused: NotBuilt\n", 6),
         ("task a { print 1; ", "refused: NotBuilt\n", 6),
-        (
-            "task a { print 1; } task b { print 2; }",
-            "refused: NotBuilt\n",
-            6,
-        ),
-        (
-            "task a { let o = new(); o.x = 4; print o.x; print o; }",
-            "refused: NotBuilt\n",
-            6,
-        ),
+        ("task a { print 1; } task b { print 2; }", "a: 1\nb: 2\n", 0),
     ];
     for (script, written, status) in rows {
         let ran = run(&rt, rt.alloc(), "run", script.as_bytes())?;
+        assert_eq!(rt; ran.written.as_slice(), written.as_bytes(), "{script}");
+        assert_eq!(rt; ran.status, status, "{script}");
+    }
+    Ok(())
+}
+
+#[test]
+fn names_and_objects(rt: HostRuntime) -> Result<(), Fail> {
+    let rows = [
+        (
+            "task a { let o = new(); o.x = 4; print o.x; print o; }",
+            "a: 4\na: obj#0\n",
+            0,
+        ),
+        ("task a { let x = (2 * 3); print (x - 10); }", "a: -4\n", 0),
+        (
+            "task a { let x = 1; let y = x; x = (x + 1); print x; print y; print nil; print true; print false; }",
+            "a: 2\na: 1\na: nil\na: true\na: false\n",
+            0,
+        ),
+        (
+            "shared s; shared u; task a { s.to = u; u.n = 7; print s.to.n; print new(); print u; }",
+            "a: 7\na: obj#2\na: obj#1\n",
+            0,
+        ),
+        (
+            "shared s; task a { s.n = 1; s.n = 2; delete s.n; print s.n; }",
+            "a! NoMember \"n\"\n",
+            1,
+        ),
+        (
+            "task a { print 1.n; } task b { print 2; }",
+            "a! NoMember \"n\"\nb: 2\n",
+            1,
+        ),
+        ("task a { print (nil + 1); }", "a! NoOperator\n", 1),
+    ];
+    for (script, written, status) in rows {
+        let ran = run(&rt, rt.alloc(), "run", script.as_bytes())?;
+        assert_eq!(rt; ran.written.as_slice(), written.as_bytes(), "{script}");
+        assert_eq!(rt; ran.status, status, "{script}");
+    }
+    Ok(())
+}
+
+#[test]
+fn scripts_that_break_a_rule(rt: HostRuntime) -> Result<(), Fail> {
+    for script in [
+        "shared s; shared s;",
+        "shared a; task a { }",
+        "shared s; task a { let s = 1; }",
+        "task a { let x = 1; let x = 2; }",
+        "task a { let x = x; }",
+        "task a { x = 1; }",
+        "shared s; task a { s = 1; }",
+        "task a { print a; }",
+        "task a { new(); }",
+        "shared s; task a { s.x; }",
+        "shared s; task a { print s[1]; }",
+        "task a { print \"text\"; }",
+    ] {
+        let ran = run(&rt, rt.alloc(), "run", script.as_bytes())?;
+        assert_eq!(rt;
+            ran.written.as_slice(),
+            b"refused: NotBuilt\n".as_slice(),
+            "{script}"
+        );
+        assert_eq!(rt; ran.status, 6, "{script}");
+    }
+    Ok(())
+}
+
+#[test]
+fn journals(rt: HostRuntime) -> Result<(), Fail> {
+    let rows = [
+        ("run --journal", "", "", 0),
+        (
+            "run --serial --journal",
+            "shared s; task a { s.n = 1; } task b { print s.n; }",
+            "b: 1\nobject 0\n  a SetMember \"n\" 1 -> nil\n  b GetMember \"n\" -> 1\n  members \"n\" 1\n",
+            0,
+        ),
+        (
+            "run --journal",
+            "shared s; task a { print s.x; }",
+            "a! NoMember \"x\"\nobject 0\n  a GetMember \"x\" -> ! NoMember \"x\"\n  members\n",
+            1,
+        ),
+        (
+            "run --journal --serial",
+            "shared s; task a { let o = new(); o.x = s; o.y = o; delete o.x; o.x = nil; }",
+            "object 0\n  members\nobject 1\n  a SetMember \"x\" obj#0 -> nil\n  a SetMember \"y\" obj#1 -> nil\n  a DeleteMember \"x\" -> nil\n  a SetMember \"x\" nil -> nil\n  members \"y\" obj#1, \"x\" nil\n",
+            0,
+        ),
+    ];
+    for (words, script, written, status) in rows {
+        let ran = run(&rt, rt.alloc(), words, script.as_bytes())?;
         assert_eq!(rt; ran.written.as_slice(), written.as_bytes(), "{script}");
         assert_eq!(rt; ran.status, status, "{script}");
     }
@@ -106,6 +194,9 @@ fn words(rt: HostRuntime) -> Result<(), Fail> {
         "Run",
         "run --",
         "run --serial --serial",
+        "run --journal --serial --journal",
+        "run --serial run",
+        "--serial run",
         "run --turns 0",
         "run run",
         "check",

@@ -1,4 +1,4 @@
-use Rattle.std.proofs.Common.{◌≡◌, ◌∙◌}
+use Rattle.std.proofs.Common.{◌∙◌}
 use Rattle.std.proofs.lemmas.Str.{chars-nil}
 use Rattle.dlr_run.proofs.words.empty.Goals as goal
 

@@ -1,11 +1,16 @@
-use Rattle.std.proofs.Common.{◌≡◌, ◌++◌, ◌∙◌, sym, subst}
-use Rattle.std.specs.Prelude.{encode_utf8_all}
+use Rattle.std.proofs.Common.{◌≡◌, ◌++◌, sym, subst}
+use Rattle.std.specs.Prelude.{OnOk, codes, encode_utf8_all}
+use Rattle.dyn_value.specs.Texts.{fault_text}
 use Rattle.dlr_top.specs.Rendering.{ended_text}
-use Rattle.dlr_top.proofs.Lines.{ended_added}
+use Rattle.dlr_top.proofs.Lines.{both, both_ok}
 use Rattle.dlr_top.proofs.rendering.render_ended.Goals as goal
 
-pub returns-in_ok-push-in-Faulted : goal.returns-in_ok-push-in-Faulted
-returns-in_ok-push-in-Faulted c = subst (λ z. c.push.new.self.items ≡ c.args.out.now.items ++ encode_utf8_all (ended_text c.args.name.now z)) (sym c.in-Faulted.is)
-    (ended_added _ _ _ _ _ _ c.args.name.now c.in-Faulted.fault
-    c.in_ok-extend_from_slice-in-Faulted.ensures.items c.in_ok-extend_from_slice-in-Faulted-2.ensures.items c.in_ok-print_to-in-Faulted.ensures.appended c.in_ok-push-in-Faulted.ensures.items
-    (c.as_bytes.ensures.value ∙ c.as_str.ensures.bytes))
+pub returns-in_ok-print_to-in-Faulted : goal.returns-in_ok-print_to-in-Faulted
+returns-in_ok-print_to-in-Faulted c =
+    let name = c.args.name.now in
+    let signed = name ++ codes "! " in
+    let faulted = signed ++ fault_text c.in-Faulted.fault in
+    let one = both _ _ _ name (codes "! ") c.in_ok-put_text-in-Faulted.ensures c.in_ok-put_ascii-in-Faulted.ensures in
+    let two = both _ _ _ signed (fault_text c.in-Faulted.fault) one c.in_ok-print_to-in-Faulted.ensures.appended in
+    subst (λ z. OnOk c.put_ascii-in-Faulted.result (c.put_ascii-in-Faulted.new.out.items ≡ c.args.out.now.items ++ encode_utf8_all (ended_text name z))) (sym c.in-Faulted.is)
+    (both_ok c.put_ascii-in-Faulted.result _ _ _ faulted (codes "\n") two c.put_ascii-in-Faulted.ensures)

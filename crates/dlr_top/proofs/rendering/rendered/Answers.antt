@@ -1,19 +1,14 @@
-use Rattle.std.proofs.Common.{◌≡◌, ◌++◌, ◌<◌, length, ap, ◌∙◌, subst, arith, get_or}
+use Rattle.std.proofs.Common.{◌≡◌, ◌++◌, [], ◌∙◌, ap}
 use Rattle.std.specs.Prelude.{encode_utf8_all}
 use Rattle.script_front.specs.Programs.{script_of}
-use Rattle.dlr_top.specs.Rendering.{task_text}
-use Rattle.dlr_top.proofs.Lines.{tasks_more}
+use Rattle.dlr_top.specs.Rendering.{journals_if, tasks_text}
+use Rattle.dlr_top.proofs.Lines.{both}
 use Rattle.dlr_top.proofs.rendering.rendered.Goals as goal
 
-pub loop-at-preserved : goal.loop-at-preserved
-loop-at-preserved c =
-    let task : c.task-item.result ≡ get_or (script_of c.args.program.now).tasks c.loop-at.at c.task-item.result =
-    c.task-item.is ∙ ap (λ z. get_or z c.loop-at.at c.task-item.result) c.tasks-task-items.ensures.tasks in
-    let end : c.index-ends-at.result ≡ get_or c.args.report.now.tasks c.loop-at.at c.index-ends-at.result =
-    c.index-ends-at.is ∙ ap (λ z. get_or z c.loop-at.at c.index-ends-at.result) c.as_slice-ends.ensures in
-    let within : c.loop-at.at < length (script_of c.args.program.now).tasks = subst (λ z. c.loop-at.at < length z) c.tasks-task-items.ensures.tasks c.loop-at-test.true in
-    let within_ends : c.loop-at.at < length c.args.report.now.tasks = omega (arith, c.requires.count) in
-    tasks_more (script_of c.args.program.now).tasks c.args.report.now.tasks c.loop-at.at c.task-item.result c.index-ends-at.result c.loop-at.text.items c.render_task.new.out.items within within_ends
-    c.loop-at.invariant
-    (c.in_ok-render_task.ensures ∙ ap (λ z. c.loop-at.text.items ++ encode_utf8_all (task_text z c.index-ends-at.result)) task
-    ∙ ap (λ z. c.loop-at.text.items ++ encode_utf8_all (task_text (get_or (script_of c.args.program.now).tasks c.loop-at.at c.task-item.result) z)) end)
+pub returns : goal.returns
+returns c =
+    let lines = tasks_text (script_of c.args.program.now).tasks c.args.report.now.tasks in
+    let wrote_lines : c.render_tasks.new.out.items ≡ [] ++ encode_utf8_all lines =
+    c.in_ok-render_tasks.ensures ∙ ap (λ z. z ++ encode_utf8_all lines) c.new-text.ensures.items in
+    both [] c.render_tasks.new.out.items c.render_asked_journals.new.out.items lines (journals_if c.args.options.now.journal c.args.program.now c.args.report.now)
+    wrote_lines c.in_ok-render_asked_journals.ensures
