@@ -1,0 +1,4 @@
+pub mod Appending
+pub mod Meaning
+pub mod Orders
+mod WorkedMeanings

@@ -1,0 +1,4 @@
+pub mod InOrder
+pub mod Meanings
+pub mod Texts
+pub mod Trees

@@ -1,0 +1,2 @@
+mod Merged
+mod Nested

@@ -1,0 +1,4 @@
+pub mod Meanings
+pub mod Merging
+pub mod Sets
+pub mod TestTrees
