@@ -1,25 +1,35 @@
 -- Lists of names, and the texts that hold them.
 use Rattle.std.proofs.Common.{◌≡◌, ◌≢◌, ℕ, ◌+◌, ◌<◌, ◌≤◌, List, [], ◌∷◌, ◌++◌, suc, length, take, drop, All, AllPairs, Some, slice_get, option_map, refl, sym, ◌∙◌, ap, subst, arith, add-one}
 use Rattle.std.specs.List.{AllZip, remove, take-map, drop-map, slice_index_or}
-use Rattle.std.specs.Cmp.Lexicographic.{slice_cmp}
-use Rattle.std.specs.Ordering.{ordering_then}
+use Rattle.std.specs.Prelude.{◌&&◌, flat_map}
+use Rattle.std.specs.Cmp.Lexicographic.{pointwise}
+use Rattle.std.specs.Hash as fed
 use Rattle.std.specs.declared.string.String.{String}
 use Rattle.std.specs.declared.alloc.Global.{Global}
-use Rattle.std.specs.String.{string_bytes, string_cmp}
-use Rattle.std.proofs.lemmas.List.{map-append, length_push, length-append, length-take, length-drop}
+use Rattle.std.specs.String.{string_bytes, string_eq}
+use Rattle.std.proofs.lemmas.List.{map-append, length-map, length_push, length-append, length-take, length-drop}
 use Rattle.std.proofs.lemmas.List.Elements.{All-push, All-append, All-take, All-drop}
 use Rattle.std.proofs.lemmas.List.Quantifiers.{all_pairs_push, all_pairs_remove}
 use Rattle.std.proofs.lemmas.Option.{slice_get-map, slice_get-get_or}
-use Rattle.expando_class.specs.Listing.{AreNames, without, names_cmp, bytes_of_each}
+use Rattle.expando_class.specs.Listing.{AreNames, without, names_eq, bytes_of_each}
 
 abbrev Text : Type 0
 Text = String Global
 
-pub cmp_of_texts : (xs ys : List Text) → slice_cmp string_cmp xs ys ≡ names_cmp (bytes_of_each xs) (bytes_of_each ys)
-cmp_of_texts [] [] = refl
-cmp_of_texts [] (y ∷ ys) = refl
-cmp_of_texts (x ∷ xs) [] = refl
-cmp_of_texts (x ∷ xs) (y ∷ ys) = ap (ordering_then (string_cmp x y)) (cmp_of_texts xs ys)
+-- texts are equal as their bytes are
+pub eq_of_texts : (xs ys : List Text) → pointwise string_eq xs ys ≡ names_eq (bytes_of_each xs) (bytes_of_each ys)
+eq_of_texts [] [] = refl
+eq_of_texts [] (y ∷ ys) = refl
+eq_of_texts (x ∷ xs) [] = refl
+eq_of_texts (x ∷ xs) (y ∷ ys) = ap (λ b. string_eq x y && b) (eq_of_texts xs ys)
+
+-- texts are fed to a hasher as their bytes are
+pub fed_texts : (xs : List Text) → flat_map (λ (text : Text). fed.str (string_bytes text)) xs ≡ flat_map fed.str (bytes_of_each xs)
+fed_texts [] = refl
+fed_texts (x ∷ xs) = ap (λ writes. fed.str (string_bytes x) ++ writes) (fed_texts xs)
+
+pub fed_names : (xs : List Text) → fed.slice (λ (text : Text). fed.str (string_bytes text)) xs ≡ fed.slice fed.str (bytes_of_each xs)
+fed_names xs = λ i. fed.usize (sym (length-map xs (λ (text : Text). string_bytes text)) i) ++ fed_texts xs i
 
 pub cloned : (xs ys : List Text) → AllZip (λ x y. string_bytes y ≡ string_bytes x) xs ys → bytes_of_each ys ≡ bytes_of_each xs
 cloned [] [] e = refl

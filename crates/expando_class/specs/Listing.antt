@@ -1,8 +1,6 @@
 -- Lists of names.
-use Rattle.std.specs.Prelude.{◌≢◌, ℕ, ◌+◌, ◌≤◌, List, ◌++◌, All, AllPairs, length, map, take, drop}
-use Rattle.std.specs.Ordering.{nat_cmp}
-use Rattle.std.specs.declared.cmp.Ordering.{Ordering}
-use Rattle.std.specs.Cmp.Lexicographic.{slice_cmp}
+use Rattle.std.specs.Prelude.{◌≢◌, ℕ, Bool, ◌+◌, ◌≤◌, List, ◌++◌, All, AllPairs, length, map, take, drop, nat_eq}
+use Rattle.std.specs.Cmp.Lexicographic.{pointwise}
 use Rattle.std.specs.declared.string.String.{String}
 use Rattle.std.specs.declared.alloc.Global.{Global}
 use Rattle.std.specs.String.{string_bytes}
@@ -17,9 +15,9 @@ pub record AreNames (names : List (List ℕ)) : Type 0 where
 abbrev pub without : List (List ℕ) → ℕ → List (List ℕ)
 without names place = take place names ++ drop (place + 1) names
 
--- the order of lists of names, by their bytes
-abbrev pub names_cmp : List (List ℕ) → List (List ℕ) → Ordering
-names_cmp = slice_cmp (slice_cmp nat_cmp)
+-- whether two lists have the same names in the same order
+abbrev pub names_eq : List (List ℕ) → List (List ℕ) → Bool
+names_eq = pointwise (pointwise nat_eq)
 
 -- the bytes of each text
 abbrev pub bytes_of_each : List (String Global) → List (List ℕ)

@@ -1,9 +1,9 @@
 //! The list of names of one class.
 ghost use Rattle.std.specs.Prelude.{◌≡◌, ◌≢◌, ◌+◌, ◌<◌, ◌≤◌, ◌++◌, ◌∷◌, [], All, IfOk, IfSome, IfNone, Some, length, slice_get};
-ghost use Rattle.expando_class.specs.Listing.{AreNames, without, names_cmp};
+ghost use Rattle.expando_class.specs.Listing.{AreNames, without, names_eq};
 
 use std::alloc::{AllocError, Global};
-use std::cmp::Ordering;
+use std::hash::{Hash, Hasher};
 use std::marker::Model;
 
 /// The names of one class, in the order in which they were added.
@@ -98,51 +98,33 @@ impl Clone for Names {
 
 impl PartialEq for Names {
     ghost use Rattle.std.specs.Cmp.{partial_equiv_from_equiv};
-    ghost use Rattle.std.specs.Ordering.{eq_by_cmp};
-    ghost use Rattle.std.proofs.lemmas.Cmp.{eq_by_cmp_equiv, lists_total, nat_list_cmp_total};
+    ghost use Rattle.std.proofs.lemmas.Cmp.{lists_equiv, nat_list_eq_equiv};
 
-    ghost eq = { eq_by_cmp names_cmp };
+    ghost eq = { names_eq };
 
-    ghost laws = { partial_equiv_from_equiv (eq_by_cmp_equiv (lists_total nat_list_cmp_total)) };
+    ghost laws = { partial_equiv_from_equiv (lists_equiv nat_list_eq_equiv) };
 
     fn eq(&self, other: &Names) -> bool {
-        self.cmp(other).is_eq()
+        self.names == other.names
     }
 }
 
 impl Eq for Names {
-    ghost use Rattle.std.proofs.lemmas.Cmp.{eq_by_cmp_equiv, lists_total, nat_list_cmp_total};
+    ghost use Rattle.std.proofs.lemmas.Cmp.{lists_equiv, nat_list_eq_equiv};
 
-    ghost laws = { eq_by_cmp_equiv (lists_total nat_list_cmp_total) };
+    ghost laws = { lists_equiv nat_list_eq_equiv };
 }
 
-impl PartialOrd for Names {
-    ghost use Rattle.std.specs.Ordering.{as_partial_cmp};
-    ghost use Rattle.std.specs.Cmp.{partial_order_from_total};
-    ghost use Rattle.std.proofs.lemmas.Cmp.{lists_total, nat_list_cmp_total};
+impl Hash for Names {
+    ghost use Rattle.std.specs.Hash as fed;
+    ghost use Rattle.std.specs.Hash.{same_Alike};
+    ghost use Rattle.std.specs.Cmp.Lexicographic.{bytes_decides, pointwise_decides};
 
-    ghost partial_cmp = { as_partial_cmp names_cmp };
+    ghost hash_input = { fed.slice fed.str };
 
-    ghost laws = { partial_order_from_total (lists_total nat_list_cmp_total) };
+    ghost respects_eq = { (same_Alike (fed.slice fed.str) (pointwise_decides bytes_decides)).fed };
 
-    fn partial_cmp(&self, other: &Names) -> Option<Ordering> {
-        Some(self.cmp(other))
-    }
-}
-
-impl Ord for Names {
-    ghost use Rattle.std.specs.Prelude.{refl};
-    ghost use Rattle.std.proofs.lemmas.Cmp.{lists_total, nat_list_cmp_total};
-
-    ghost cmp = { names_cmp };
-
-    ghost total = { lists_total nat_list_cmp_total };
-
-    ghost matches_partial_cmp = { λ one other. refl };
-
-    ghost matches_eq = { λ one other. refl };
-
-    fn cmp(&self, other: &Names) -> Ordering {
-        self.names.cmp(&other.names)
+    fn hash<H: Hasher>(&self, state: &mut H) {
+        self.names.hash(state);
     }
 }

@@ -5,13 +5,13 @@ ghost use Rattle.expando_class.specs.Known.{names_at, StandAtNumbers, GivesNumbe
 use crate::class::ClassRef;
 use crate::names::Names;
 use std::alloc::{AllocError, Global};
-use std::collections::BTreeMap;
+use std::collections::{BTreeMap, HashMap};
 
 /// The classes that one pass knows: the root, and no two with one list of names.
 #[derive(Drop)]
 pub struct ClassPass {
     by_number: BTreeMap<u128, ClassRef>,
-    by_names: BTreeMap<Names, u128>,
+    by_names: HashMap<Names, u128>,
     ghost root: { names_at by_number 0 ≡ Some [] },
     ghost numbered: { StandAtNumbers by_number },
     ghost gives: { GivesNumbers by_number by_names },
@@ -29,7 +29,7 @@ impl ClassPass {
         ensures of { (table : ClassTable) → IfOk result (IsPassOf table) }
     {
         let mut by_number = BTreeMap::new(alloc);
-        let mut by_names = BTreeMap::new(alloc);
+        let mut by_names = HashMap::new(alloc);
         by_number.insert(0, ClassRef::root())?;
         by_names.insert(Names::empty(alloc), 0)?;
         Ok(ClassPass {

@@ -87,7 +87,9 @@ fn shows(table: &ClassTable, class: &ClassRef) -> bool
 fn adds_x(rt: &impl Wait, alloc: Global, table: &ClassTable) -> Option<ClassRef>
     ensures { IfSome result (IsClassOf table.now) }
 {
-    let mut pass = table.pass(alloc).ok()?;
+    let Ok(mut pass) = table.pass(alloc) else {
+        return None;
+    };
     with_name(rt, table, &mut pass, &table.root(), "x")
 }
 
