@@ -1,0 +1,1 @@
+for i in 1 2 3 4 5 6 7 8; do echo "task t$i { }"; done
