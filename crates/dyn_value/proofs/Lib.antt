@@ -1,3 +1,4 @@
+pub mod Distinct
 pub mod Encoding
 mod Numbers
 mod ProperAnswers

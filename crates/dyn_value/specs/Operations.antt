@@ -1,6 +1,6 @@
 -- The operations on values, over whole numbers without bounds: the exact result is taken first, and it is
 -- Overflow where it lies outside 64 bits.
-use Rattle.std.specs.Prelude.{ℕ, ◌^◌, Bool, true, false, if◌then◌else◌, not, ◌&&◌, ◌||◌, List, ◌++◌, length, Result, Ok, Err, ℤ, pos, negsuc, neg_ℤ, ◌+ℤ◌, ◌-ℤ◌, ◌*ℤ◌, int_div, int_rem, nat_le, nat_lt, nat_eq, encode_utf8_all}
+use Rattle.std.specs.Prelude.{ℕ, ◌^◌, Bool, true, false, if◌then◌else◌, not, ◌&&◌, ◌||◌, List, ◌++◌, length, option_map, ok_or, Result, Ok, Err, ℤ, pos, negsuc, neg_ℤ, ◌+ℤ◌, ◌-ℤ◌, ◌*ℤ◌, int_div, int_rem, nat_le, nat_lt, nat_eq, encode_utf8_all}
 use Rattle.std.specs.Ordering.{int_eq, int_cmp, nat_cmp, is_lt, is_gt, is_le, is_ge}
 use Rattle.std.specs.Cmp.Lexicographic.{slice_cmp}
 use Rattle.std.specs.Str.{bytes_eq}
@@ -12,7 +12,8 @@ use Rattle.dyn_value.specs.declared.operator.BinOp.TheVariants as op
 use Rattle.dyn_value.specs.declared.value.Value.{Value}
 use Rattle.dyn_value.specs.declared.value.Value.TheVariants.{Nil, Bool as Truth, Int, Text, Fun, Obj}
 use Rattle.dyn_value.specs.declared.fault.Fault.{Fault}
-use Rattle.dyn_value.specs.declared.fault.Fault.TheVariants.{NoOperator, Overflow, ZeroDivide, TextLong}
+use Rattle.dyn_value.specs.declared.fault.Fault.TheVariants.{NoIndex, NoOperator, Overflow, ZeroDivide, TextLong}
+use Rattle.dyn_value.specs.Texts.{character_at}
 
 -- whether a whole number lies within 64 bits
 abbrev pub fits : ℤ → Bool
@@ -95,3 +96,14 @@ binary_of op.GreaterThan a b = on_ordered is_gt a b
 binary_of op.GreaterThanOrEqual a b = on_ordered is_ge a b
 binary_of op.And a b = on_truths (λ x y. x && y) a b
 binary_of op.Or a b = on_truths (λ x y. x || y) a b
+
+-- the number of characters of a text
+abbrev pub length_of : Value → Result Value Fault
+length_of (Text t) = Ok (Int (pos (length t)))
+length_of _ = Err NoOperator
+
+-- the character of a text at a place counted from 0
+abbrev pub char_of : Value → Value → Result Value Fault
+char_of (Text t) (Int i) = ok_or (option_map Text (character_at t i)) NoIndex
+char_of (Text t) _ = Err NoIndex
+char_of _ _ = Err NoOperator

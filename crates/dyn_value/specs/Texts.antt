@@ -1,8 +1,7 @@
 -- Texts of values and faults, in characters.
-use Rattle.std.specs.Prelude.{ℕ, ℤ, pos, negsuc, Bool, true, false, not, ◌&&◌, ◌==◌, if◌then◌else◌, List, [], ◌∷◌, ◌++◌, codes, Option, None, slice_get}
-use Rattle.std.specs.List.{flat_map, list_any}
+use Rattle.std.specs.Prelude.{ℕ, ℤ, pos, negsuc, Bool, true, false, ◌==◌, if◌then◌else◌, List, [], ◌∷◌, ◌++◌, codes, Option, None, slice_get}
+use Rattle.std.specs.List.{flat_map}
 use Rattle.std.specs.Option.{option_map}
-use Rattle.std.specs.Str.{bytes_eq}
 use Rattle.std.specs.Fmt.{decimal, signed_decimal}
 use Rattle.dyn_value.specs.declared.operator.UnOp.{UnOp}
 use Rattle.dyn_value.specs.declared.operator.UnOp.TheVariants as unary
@@ -96,8 +95,3 @@ fault_text fault.MembersFull = codes "MembersFull"
 fault_text fault.HeapFull = codes "HeapFull"
 fault_text fault.Depth = codes "Depth"
 fault_text fault.Turns = codes "Turns"
-
--- whether no text stands among these twice
-abbrev pub are_distinct : List (List ℕ) → Bool
-are_distinct [] = true
-are_distinct (t ∷ ts) = not (list_any (bytes_eq t) ts) && are_distinct ts

@@ -21,5 +21,5 @@ pub use fault::Fault;
 pub use operations::{binary, unary};
 pub use operator::{BinOp, UnOp};
 pub use outcome::Outcome;
-pub use text::DynText;
+pub use text::{DynText, are_distinct, is_among};
 pub use value::{Kind, Value};

@@ -1,4 +1,5 @@
 ghost use Rattle.std.specs.Prelude.{◌≡◌, ◌↔◌, IsTrue, IfOk};
+ghost use Rattle.dyn_value.specs.Outcomes.{outcome_of};
 
 use crate::fault::Fault;
 use crate::value::Value;
@@ -18,6 +19,16 @@ pub enum Outcome {
 }
 
 impl Outcome {
+    /// The outcome that is this value or this fault.
+    pub fn of(answer: Result<Value, Fault>) -> Outcome
+        ensures { result ≡ outcome_of answer }
+    {
+        match answer {
+            Ok(value) => Outcome::Value(value),
+            Err(fault) => Outcome::Fault(fault),
+        }
+    }
+
     /// Whether the two outcomes have the same form and the same content.
     pub fn same(&self, other: &Outcome) -> bool
         ensures { IsTrue result ↔ (self.now ≡ other.now) }

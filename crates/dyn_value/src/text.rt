@@ -1,29 +1,32 @@
-ghost use Rattle.std.specs.Prelude.{◌≡◌, ◌↔◌, ◌<◌, ◌≤◌, ◌∷◌, [], ◌++◌, length, pos, encode_utf8_all, IfOk, IfSome, OnOk, OnErr, IsTrue, MatchOption, string_bytes, string_len};
-ghost use Rattle.std.specs.Str.{chars};
+ghost use Rattle.std.specs.Prelude.{◌≡◌, ◌↔◌, ◌<◌, ◌≤◌, ◌∷◌, [], ◌++◌, ◌+◌, length, drop, pos, encode_utf8_all, IfOk, IfSome, OnOk, OnErr, IsTrue, MatchOption, string_bytes, string_len};
+ghost use Rattle.std.specs.List.{IsDistinct, list_any};
+ghost use Rattle.std.specs.Str.{bytes_eq, chars};
 ghost use Rattle.dyn_value.specs.Proper.{IsText};
 ghost use Rattle.dyn_value.specs.Texts.{character_at, quoted_text};
 
 use crate::quote::quoted;
 use std::alloc::{AllocError, Global};
 use std::marker::Model;
+use std::sync::ArcStr;
 
 /// A text of the script language: Unicode characters, at most [`DynText::MOST_BYTES`] bytes as UTF-8.
 ///
-/// Contracts see it as the list of its characters.
+/// Contracts see it as the list of its characters. Copies share the characters.
 #[derive(Debug, Drop)]
 pub struct DynText {
-    text: String,
+    text: ArcStr,
 }
 
 impl Model for DynText {
-    ghost use Rattle.std.specs.Prelude.{List, ℕ, ◌≤◌, length, string_bytes};
+    ghost use Rattle.std.specs.Prelude.{List, ℕ, ◌≤◌, length};
+    ghost use Rattle.std.specs.Arc.{arc_str_bytes};
     ghost use Rattle.std.specs.Str.{chars};
 
     ghost Value = { List ℕ };
 
-    ghost view = { λ t. chars (string_bytes t.text) };
+    ghost view = { λ t. chars (arc_str_bytes t.text) };
 
-    ghost invariant = { λ t. length (string_bytes t.text) ≤ 65536 };
+    ghost invariant = { λ t. length (arc_str_bytes t.text) ≤ 65536 };
 }
 
 impl DynText {
@@ -39,17 +42,18 @@ impl DynText {
         if text.len() > DynText::MOST_BYTES {
             return Ok(None);
         }
-        let text = String::from_str(alloc, text)?;
+        let text = ArcStr::from_str(alloc, text)?;
         Ok(Some(DynText { text }))
     }
 
-    /// The text of a string that is short enough.
-    pub(crate) fn from_string(text: String) -> DynText
+    /// The text of a string that is short enough. The one error is want of memory.
+    pub(crate) fn from_string(text: String) -> Result<DynText, AllocError>
         requires { string_len text ≤ 65536 }
-        ensures characters { result ≡ chars (string_bytes text) }
-        ensures proper { IsText result }
+        ensures characters { IfOk result (λ t. t ≡ chars (string_bytes text)) }
+        ensures proper { IfOk result IsText }
     {
-        DynText { text }
+        let text = ArcStr::from_string(text)?;
+        Ok(DynText { text })
     }
 
     /// The text as UTF-8.
@@ -68,7 +72,7 @@ impl DynText {
         String::from_str(alloc, self.text.as_str())
     }
 
-    /// An equal text. The one error is want of memory.
+    /// An equal text, which shares the characters: no byte is copied, and no memory is taken.
     pub fn copy(&self) -> Result<DynText, AllocError>
         ensures { IfOk result (λ t. t ≡ self.now) }
     {
@@ -105,7 +109,8 @@ impl DynText {
     {
         let mut text = String::new(alloc);
         text.push(character)?;
-        Ok(DynText::from_string(text))
+        let alone = DynText::from_string(text)?;
+        Ok(alone)
     }
 
     /// Whether the two texts have the same characters.
@@ -142,6 +147,34 @@ impl DynText {
         let mut text = String::with_capacity(alloc, bytes)?;
         text.push_str(self.text.as_str())?;
         text.push_str(next.text.as_str())?;
-        Ok(Some(DynText { text }))
+        let joined = DynText::from_string(text)?;
+        Ok(Some(joined))
     }
+}
+
+/// Whether the text is one of these.
+pub fn is_among(texts: &[DynText], text: &DynText) -> bool
+    ensures { result ≡ list_any (bytes_eq text.now) texts.now }
+{
+    texts.iter().any(|other| text.same(other))
+}
+
+/// Whether no text stands among these twice.
+pub fn are_distinct(texts: &[DynText]) -> bool
+    ensures { IsTrue result ↔ IsDistinct bytes_eq texts.now }
+{
+    for (place, text) in texts.iter().enumerate() {
+        if is_among(after(texts, place), text) {
+            return false;
+        }
+    }
+    true
+}
+
+/// The texts after this place.
+fn after(texts: &[DynText], place: usize) -> &[DynText]
+    requires { place < length texts.now }
+    ensures { result.now ≡ drop (place + 1) texts.now }
+{
+    &texts[place + 1..]
 }

@@ -98,7 +98,7 @@ impl Value {
         ensures characters { IfOk result (λ t. t ≡ plain self.now) }
         ensures proper { IfOk result IsText }
     {
-        Ok(DynText::from_string(self.plain_text(alloc)?))
+        DynText::from_string(self.plain_text(alloc)?)
     }
 
     /// Appends the plain text of the value, as UTF-8. Where memory is refused, `out` stays as it was.

@@ -1,1 +1,3 @@
+pub mod Arguments
 pub mod Binders
+pub mod Functions

@@ -10,8 +10,8 @@ returns-clause-bytes c = sym (encodes-chars c.as_str.result.now c.as_str.utf8) �
 
 pub returns-clause-proper : goal.returns-clause-proper
 returns-clause-proper c =
-    let is_text : IsUtf8 (string_bytes c.self.inside.text) = subst IsUtf8 c.as_str.ensures.value c.as_str.utf8 in
-    let bytes : encode_utf8_all c.args.self.now ≡ string_bytes c.self.inside.text = ap encode_utf8_all (sym c.self.view_is) ∙ encodes-chars (string_bytes c.self.inside.text) is_text in (
-      ap scalars (sym c.self.view_is) ∙ scalars-chars (string_bytes c.self.inside.text) is_text,
+    let is_text : IsUtf8 (string_bytes c.self.inside.text.text.value) = subst IsUtf8 c.as_str.ensures.value c.as_str.utf8 in
+    let bytes : encode_utf8_all c.args.self.now ≡ string_bytes c.self.inside.text.text.value = ap encode_utf8_all (sym c.self.view_is) ∙ encodes-chars (string_bytes c.self.inside.text.text.value) is_text in (
+      ap scalars (sym c.self.view_is) ∙ scalars-chars (string_bytes c.self.inside.text.text.value) is_text,
       subst (λ b. length b ≤ 65536) (sym bytes) c.self.invariant,
     )

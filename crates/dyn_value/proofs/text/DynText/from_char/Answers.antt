@@ -9,4 +9,4 @@ returns-clause-characters c =
     let character = c.args.character in
     let bytes : string_bytes c.push.new.self ≡ encode_utf8 character =
     c.in_ok-push.ensures.bytes ∙ ap (λ b. b ++ encode_utf8 character) c.new-text.ensures.bytes in
-    c.from_string.ensures.characters ∙ ap chars bytes ∙ chars_alone character (search (rules, c.ranges.character))
+    c.in_ok-alone.ensures.characters ∙ ap chars bytes ∙ chars_alone character (search (rules, c.ranges.character))

@@ -10,7 +10,7 @@ counted c = search (rules, chars_from_encodes)
 
 pub returns : goal.returns
 returns c =
-    let bytes = string_bytes c.self.inside.text in
+    let bytes = string_bytes c.self.inside.text.text.value in
     let all : c.count.result ≡ length (chars bytes) = counted c ∙ ap (λ b. length (chars b)) c.as_str.ensures.value in
-    let few : length (chars bytes) ≤ 65536 = length_chars_le bytes 65536 (IsUtf8-string_bytes c.self.inside.text) c.self.invariant in
+    let few : length (chars bytes) ≤ 65536 = length_chars_le bytes 65536 (IsUtf8-string_bytes c.self.inside.text.text.value) c.self.invariant in
     omega (arith, ints, all, ap length c.self.view_is)
