@@ -1,3 +1,5 @@
+pub mod Accesses
 pub mod Journals
 pub mod Members
+pub mod Plain
 pub mod Steps

@@ -1,11 +1,14 @@
 -- The members of an object.
-use Rattle.std.specs.Prelude.{◌≡◌, ℕ, ◌≤◌, true, if◌then◌else◌, List, [], ◌∷◌, length, map, Option, None, Some}
-use Rattle.std.specs.List.{AllByRecursion}
+use Rattle.std.specs.Prelude.{◌≡◌, ℕ, ◌≤◌, if◌then◌else◌, List, [], ◌∷◌, length, map, Option, None, Some}
+use Rattle.std.specs.List.{AllByRecursion, IsDistinct}
 use Rattle.std.specs.Str.{bytes_eq}
 use Rattle.dyn_value.specs.declared.value.Value.{Value}
 use Rattle.dyn_value.specs.Proper.{IsProperIn}
-use Rattle.dyn_value.specs.Texts.{are_distinct}
-use Rattle.object_model.specs.declared.member.Member.{Member}
+
+-- a name and its value
+pub record Member : Type 0 where
+  pub name : List ℕ
+  pub value : Value
 
 -- members in the order in which they were added
 abbrev pub Members : Type 0
@@ -31,7 +34,7 @@ removed name (m ∷ ms) = if bytes_eq m.name name then ms else m ∷ removed nam
 
 -- names are distinct, and there are at most 64
 pub record AreMembers (ms : Members) : Type 0 where
-  pub distinct : are_distinct (map member_name ms) ≡ true
+  pub distinct : IsDistinct bytes_eq (map member_name ms)
   pub few : length ms ≤ 64
 
 -- their values are proper in a run of so many functions and objects

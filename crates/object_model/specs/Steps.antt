@@ -1,17 +1,15 @@
--- What an operation gives: on an object's members, and where it looks at no object.
-use Rattle.std.specs.Prelude.{ℕ, pos, Bool, true, false, if◌then◌else◌, List, [], ◌∷◌, ◌++◌, length, Option, None, Some, Result, Ok, Err, codes, nat_eq}
-use Rattle.std.specs.Str.{bytes_eq}
+-- What an operation on an object's members gives.
+use Rattle.std.specs.Prelude.{ℕ, Bool, true, false, if◌then◌else◌, List, [], ◌∷◌, ◌++◌, length, Option, None, Some, nat_eq}
+use Rattle.std.specs.Option.{option_map}
 use Rattle.dyn_value.specs.declared.value.Value.{Value}
 use Rattle.dyn_value.specs.declared.value.Value.TheVariants as value
 use Rattle.dyn_value.specs.declared.fault.Fault.{Fault as ValueFault}
-use Rattle.dyn_value.specs.declared.fault.Fault.TheVariants.{NoMember, MembersFull, NoOperator}
+use Rattle.dyn_value.specs.declared.fault.Fault.TheVariants.{NoMember, NoIndex, MembersFull}
 use Rattle.dyn_value.specs.declared.outcome.Outcome.{Outcome}
 use Rattle.dyn_value.specs.declared.outcome.Outcome.TheVariants as outcome
-use Rattle.dyn_value.specs.Operations.{binary_of}
-use Rattle.dyn_value.specs.Proper.{IsProperIn}
 use Rattle.standard_binders.specs.declared.binder.Binder.{Binder}
-use Rattle.standard_binders.specs.declared.binder.Binder.TheVariants.{GetMember, SetMember, DeleteMember, BinaryOperation}
 use Rattle.standard_binders.specs.Binders.{is_on_members}
+use Rattle.object_model.specs.Accesses.{Access, Reads, Writes, Deletes, NoKey, access_of}
 use Rattle.object_model.specs.Members.{Members, value_of, replaced, removed}
 
 -- what an operation on an object leaves of its members, and its outcome
@@ -39,32 +37,17 @@ abbrev pub delete_member : List ℕ → Option Value → Members → Step
 delete_member name None ms = fails (NoMember name) ms
 delete_member name (Some v) ms = changes (removed name ms)
 
--- The step of an object by an operation: its binder, and the operands after the target. An operation has as many
--- operands as its binder and is one on members, so the last case is none.
-abbrev pub object_step : Members → Binder → List Value → Step
-object_step ms (GetMember name ignore_case) [] = read_member name (value_of name ms) ms
-object_step ms (SetMember name ignore_case) (v ∷ []) = write_member name v (value_of name ms) ms
-object_step ms (DeleteMember name ignore_case) [] = delete_member name (value_of name ms) ms
-object_step ms _ _ = fails NoOperator ms
+-- what an access gives on these members
+abbrev pub step_by : Access → Members → Step
+step_by (Reads name) ms = read_member name (value_of name ms) ms
+step_by (Writes name v) ms = write_member name v (value_of name ms) ms
+step_by (Deletes name) ms = delete_member name (value_of name ms) ms
+step_by NoKey ms = fails NoIndex ms
 
--- a value or a fault as the outcome of an operation
-abbrev pub outcome_of : Result Value ValueFault → Outcome
-outcome_of (Ok v) = outcome.Value v
-outcome_of (Err f) = outcome.Fault f
-
--- a text has the member `length` alone
-abbrev pub text_member : List ℕ → List ℕ → Outcome
-text_member text name = if bytes_eq name (codes "length") then outcome.Value (value.Int (pos (length text))) else outcome.Fault (NoMember name)
-
--- The outcome of an operation that looks at no object, by its operands, the target first. An operation has as
--- many operands as its binder, so the last case is none.
-abbrev pub plain_step : Binder → List Value → Outcome
-plain_step (GetMember name ignore_case) (value.Text t ∷ []) = text_member t name
-plain_step (GetMember name ignore_case) (target ∷ []) = outcome.Fault (NoMember name)
-plain_step (SetMember name ignore_case) (target ∷ v ∷ []) = outcome.Fault (NoMember name)
-plain_step (DeleteMember name ignore_case) (target ∷ []) = outcome.Fault (NoMember name)
-plain_step (BinaryOperation op) (left ∷ right ∷ []) = outcome_of (binary_of op left right)
-plain_step _ _ = outcome.Fault NoOperator
+-- The step of an object by an operation, by its binder and the operands after the target; where the binder is one on
+-- members and the operands suit it.
+abbrev pub object_step : Members → Binder → List Value → Option Step
+object_step ms b operands = option_map (λ access. step_by access ms) (access_of b operands)
 
 -- an operation on an object: the object's number, and the operands after it
 pub record OnObject : Type 0 where
@@ -79,10 +62,3 @@ if_on_members false o = None
 abbrev pub on_object : Binder → List Value → Option OnObject
 on_object b (value.Obj o ∷ operands) = if_on_members (is_on_members b) (record { object = o; operands = operands })
 on_object b _ = None
-
--- A value that is proper in a run of so many functions and objects, or a fault. No operation asks for a call so far.
-abbrev pub IsAnswerIn : ℕ → ℕ → Outcome → Type 0
-IsAnswerIn functions objects (outcome.Value v) = IsProperIn functions objects v
-IsAnswerIn functions objects (outcome.Call f) = ⊥
-IsAnswerIn functions objects (outcome.Make f) = ⊥
-IsAnswerIn functions objects (outcome.Fault f) = Unit {0}
