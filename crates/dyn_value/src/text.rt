@@ -4,6 +4,9 @@ ghost use Rattle.std.specs.Str.{bytes_eq, chars};
 ghost use Rattle.dyn_value.specs.Proper.{IsText};
 ghost use Rattle.dyn_value.specs.Texts.{character_at, quoted_text};
 
+#[cfg(test)]
+mod tests;
+
 use crate::quote::quoted;
 use std::alloc::{AllocError, Global};
 use std::marker::Model;

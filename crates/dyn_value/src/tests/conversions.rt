@@ -108,6 +108,8 @@ fn outcomes(rt: HostRuntime) -> Result<(), Fail> {
         Outcome::Make(1),
         Outcome::Fault(Fault::NoMember(text(alloc, "a")?)),
     ];
+    assert!(rt; Outcome::of(Ok(Value::Obj(2))).same(&Outcome::Value(Value::Obj(2))));
+    assert!(rt; Outcome::of(Err(Fault::NoIndex)).same(&Outcome::Fault(Fault::NoIndex)));
     for (place, outcome) in outcomes.iter().enumerate() {
         let copy = outcome.copy()?;
         for (other_place, other) in outcomes.iter().enumerate() {
