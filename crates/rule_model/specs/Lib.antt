@@ -1,0 +1,4 @@
+pub mod Claims
+pub mod Soundness
+pub mod States
+pub mod Tests
