@@ -1,5 +1,6 @@
 -- When a rule is sound: what it answers is what binding afresh gives.
 use Rattle.std.specs.Prelude.{◌≡◌, ℕ, ◌+◌, ◌&&◌, Bool, true, false, not, IsTrue, List, [], ◌∷◌, length, take, remove, Option, None, Some}
+use Rattle.std.specs.List.{AllByRecursion, list_all}
 use Rattle.dyn_value.specs.declared.value.Value.{Value}
 use Rattle.dyn_value.specs.declared.value.Value.TheVariants as value
 use Rattle.dyn_value.specs.declared.outcome.Outcome.{Outcome}
@@ -33,17 +34,17 @@ IsEven names more (Remove p n) = more ≡ remove names p
 IsEven names more _ = Unit {0}
 
 -- A body does to an object in this state, of these operands and the names of the class after, what a step does to its
--- members, and answers its outcome; what it names is there.
+-- members, and answers its outcome; the operands and places that its nodes name are there.
 pub record Does (body : List Node) (operands : List Value) (more : List (List ℕ)) (s : State) (to : Step) : Type 0 where
-  pub there : IsThere operands s.values (root body)
+  pub there : AllByRecursion (IsThere operands s.values) body
   pub even : IsEven s.names more (root body)
   pub state : HasMembers (state_after operands more s (root body)) to.members
   pub outcome : answer_in operands s (root body) ≡ to.outcome
 
--- A body leaves objects alone, and answers this; the operands that it names are there.
+-- A body leaves objects alone, and answers this; the operands that its nodes name are there.
 pub record Answers (body : List Node) (operands : List Value) (s : State) (to : Outcome) : Type 0 where
-  pub there : IsThere operands [] (root body)
-  pub plain : IsTrue (is_plain (root body))
+  pub there : AllByRecursion (IsThere operands []) body
+  pub plain : IsTrue (list_all is_plain body)
   pub outcome : answer_in operands s (root body) ≡ to
 
 abbrev pub is_object : Value → Bool
