@@ -36,7 +36,7 @@ pub record IsBinding (functions : Functions) (pass : ClassPass) (b : Binder) (me
 abbrev pub HasTests : Binder → List MetaObject → Bound → Type 0
 HasTests b metas bound = bound.restrictions ≡ tests_by (form_of b) (map known_in metas)
 
--- what an object of the runtime hands to the language
+-- what an object of the runtime hands to the language: nothing, or a binding
 abbrev pub IsSuggestion : Functions → ClassPass → Binder → List MetaObject → Option Bound → Type 0
 IsSuggestion functions pass b metas None = ⊤
 IsSuggestion functions pass b metas (Some bound) = IsBinding functions pass b metas bound

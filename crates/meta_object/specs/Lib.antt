@@ -1,2 +1,4 @@
+pub mod BinderKinds
 pub mod Bindings
+pub mod Contexts
 pub mod Metas
