@@ -1,1 +1,5 @@
+pub mod MemberPlaces
+pub mod MemberSoundness
+pub mod MemberSteps
+pub mod Roots
 pub mod UnderMaps
