@@ -2,3 +2,4 @@ pub mod BinderKinds
 pub mod Bindings
 pub mod Contexts
 pub mod Metas
+pub mod Reaching
