@@ -1,3 +1,5 @@
 pub mod Described
 pub mod MemberBounds
 pub mod Nexts
+pub mod OperandTests
+pub mod Targets

@@ -1,5 +1,5 @@
 -- Which member an operation on an object reaches, and the class to which the object then moves.
-use Rattle.std.specs.Prelude.{◌≡◌, ℕ, ◌==◌, if◌then◌else◌, List, [], ◌∷◌, length, Option, None, Some, ⊤}
+use Rattle.std.specs.Prelude.{◌≡◌, ℕ, Bool, true, false, ◌==◌, if◌then◌else◌, List, [], ◌∷◌, length, Option, None, Some, ⊤}
 use Rattle.std.specs.Option.{option_map}
 use Rattle.dyn_value.specs.declared.value.Kind.TheVariants as kind
 use Rattle.dyn_value.specs.declared.value.Value.{Value}
@@ -13,6 +13,7 @@ use Rattle.restrictions.specs.declared.restriction.Restriction.TheVariants.{Kind
 use Rattle.standard_binders.specs.declared.binder.Binder.{Binder}
 use Rattle.standard_binders.specs.declared.binder.Binder.TheVariants as binder
 use Rattle.rule_model.specs.declared.reach.Reach.{Reach}
+use Rattle.rule_model.specs.declared.reach.Reach.TheVariants.{Writes}
 use Rattle.rule_model.specs.Claims.{changed}
 use Rattle.rule_model.specs.MemberAnswers.{member_after, name_of, is_by_key}
 use Rattle.meta_object.specs.declared.meta.MetaObject.{MetaObject}
@@ -51,3 +52,8 @@ pub record IsNext (pass : ClassPass) (class : ClassRef) (reach : Reach) (name : 
 -- what the tests of the operation look at: the class, and the key where it is by one
 abbrev pub member_tests_on : Binder → ℕ → List ℕ → List Restriction
 member_tests_on b n name = IsKind 0 kind.Obj ∷ Class n ∷ (if is_by_key b then Key 1 name ∷ [] else [])
+
+-- whether the operation is a fault where there is no member of the name
+abbrev pub is_for_old : Reach → Bool
+is_for_old (Writes operand) = false
+is_for_old _ = true

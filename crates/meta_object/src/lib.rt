@@ -1,14 +1,18 @@
 //! What a binding knows of operands, and how an object of the runtime takes part in it.
 #![tactic(auto)]
 
+mod bind;
 mod bound;
 mod context;
 mod language;
+mod laws;
 mod member;
 mod meta;
+mod suggestion;
 
 pub use bound::Bound;
 pub use context::BindContext;
 pub use language::Language;
+pub use laws::tests_are_those_of_the_operands;
 pub use member::member_bound;
 pub use meta::{MetaObject, Shape};

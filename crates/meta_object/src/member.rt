@@ -89,7 +89,7 @@ fn number_of(class: Option<ClassRef>) -> Option<u128>
 }
 
 /// The place of a name in a class.
-fn place_in(table: &ClassTable, class: &ClassRef, name: &DynText) -> Option<u16>
+pub(crate) fn place_in(table: &ClassTable, class: &ClassRef, name: &DynText) -> Option<u16>
     requires { IsClassOf table.now class.now }
     ensures { IsPlaced (names_of class.now) name.now result }
 {

@@ -1,7 +1,7 @@
 //! Metaobjects: what a binding knows of an operand.
-ghost use Rattle.std.specs.Prelude.{IfOk};
+ghost use Rattle.std.specs.Prelude.{◌≡◌, IfOk};
 ghost use Rattle.std.specs.Option.{option_copied};
-ghost use Rattle.meta_object.specs.Metas.{IsLendable, IsMetaOf};
+ghost use Rattle.meta_object.specs.Metas.{IsLendable, IsMetaOf, class_in_shape};
 
 use dyn_value::{Kind, Value};
 use expando_class::ClassRef;
@@ -26,6 +26,18 @@ pub struct MetaObject {
     pub shape: Shape,
     /// The value itself, of a function or a text.
     pub value: Option<Value>,
+}
+
+impl Shape {
+    /// The class of the object; none of any other value.
+    pub fn class(&self) -> Option<&ClassRef>
+        ensures { option_copied result ≡ class_in_shape self.now }
+    {
+        match self {
+            Shape::Expando(class) => Some(class),
+            Shape::Plain(_) => None,
+        }
+    }
 }
 
 impl MetaObject {
