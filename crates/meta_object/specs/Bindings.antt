@@ -1,9 +1,10 @@
 -- What a binding answers.
-use Rattle.std.specs.Prelude.{◌≡◌, ◌⊎◌, ℕ, All, ◌≢◌, Bool, true, false, List, [], ◌∷◌, map, IsSomeAnd, Option, None, Some, ⊤}
+use Rattle.std.specs.Prelude.{◌≡◌, ◌⊎◌, ℕ, All, ◌≢◌, Bool, true, false, not, List, map, IsSomeAnd, Option, None, Some, ⊤}
+use Rattle.std.specs.List.{list_any}
+use Rattle.std.specs.Str.{bytes_eq}
 use Rattle.dyn_value.specs.declared.value.Value.{Value}
 use Rattle.expando_class.specs.declared.class.ClassRef.{ClassRef}
 use Rattle.expando_class.specs.declared.pass.ClassPass.{ClassPass}
-use Rattle.expando_class.specs.declared.table.ClassTable.{ClassTable}
 use Rattle.expando_class.specs.Class.{number_of, names_of}
 use Rattle.expando_class.specs.Pass.{class_map}
 use Rattle.restrictions.specs.Meanings.{all_hold}
@@ -59,3 +60,13 @@ IsAbsent name None suggestion = ⊤
 IsAbsent name (Some shown) (Some bound) = ⊤
 IsAbsent (Some name) (Some shown) None = All (λ other. other ≢ name) (names_of shown)
 IsAbsent None (Some shown) None = ⊥
+
+-- whether a member that is read or deleted is none of these names
+abbrev pub is_missing : Option (List ℕ) → List (List ℕ) → Bool
+is_missing (Some name) names = not (list_any (bytes_eq name) names)
+is_missing None names = false
+
+-- whether a target that shows this class suggests its own answer: an object does, save where it would be that fault
+abbrev pub is_suggested : Option (List ℕ) → Option ClassRef → Bool
+is_suggested name None = false
+is_suggested name (Some shown) = not (is_missing name (names_of shown))

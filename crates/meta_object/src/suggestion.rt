@@ -1,11 +1,11 @@
 //! What an object of the runtime answers itself.
-ghost use Rattle.std.specs.Prelude.{◌≡◌, IfOk, IfSome, IsSome, IsTrue, Some};
+ghost use Rattle.std.specs.Prelude.{◌≡◌, IfOk, IfSome, IsSome, IsTrue, Some, is_some};
 ghost use Rattle.std.specs.Option.{option_copied};
-ghost use Rattle.expando_class.specs.Class.{IsClassOf};
+ghost use Rattle.expando_class.specs.Class.{IsClassOf, names_of};
 ghost use Rattle.expando_class.specs.Pass.{IsPassOf};
 ghost use Rattle.rule_model.specs.MemberAnswers.{name_of};
 ghost use Rattle.standard_binders.specs.Functions.{Functions};
-ghost use Rattle.meta_object.specs.Bindings.{HasTests, IsAbsent, IsSuggestion, read_name};
+ghost use Rattle.meta_object.specs.Bindings.{HasTests, IsAbsent, IsSuggestion, is_missing, is_suggested, read_name};
 ghost use Rattle.meta_object.specs.Contexts.{KeepsContext};
 ghost use Rattle.meta_object.specs.Metas.{has_key, target_class};
 ghost use Rattle.meta_object.specs.Reaching.{is_for_old};
@@ -15,7 +15,7 @@ use crate::context::BindContext;
 use crate::member::{member_bound, place_in};
 use crate::meta::MetaObject;
 use dyn_value::DynText;
-use expando_class::ClassRef;
+use expando_class::{ClassRef, ClassTable};
 use rule_model::Reach;
 use standard_binders::Binder;
 use std::alloc::{AllocError, Global};
@@ -37,6 +37,7 @@ pub(crate) fn own_bound<R: Wait>(
     ensures suggestion { IfOk result (λ own. (functions : Functions) →
         IsSuggestion functions cx.new.pass.now binder.now metas.now own) }
     ensures tests { IfOk result (λ own. IfSome own (HasTests binder.now metas.now)) }
+    ensures exactly { IfOk result (λ own. is_some own ≡ is_suggested (read_name binder.now) (target_class metas.now)) }
     ensures absent { IfOk result (IsAbsent (read_name binder.now) (target_class metas.now)) }
     ensures context { KeepsContext cx.old cx.new }
 {
@@ -44,11 +45,20 @@ pub(crate) fn own_bound<R: Wait>(
         return Ok(None);
     };
     let name = member_name(binder);
-    if must_be_there(Reach::of(binder)) && place_in(cx.table, class, name).is_none() {
+    if is_missing(cx.table, class, binder, name) {
         return Ok(None);
     }
     let own = member_bound(alloc, rt, cx, binder, class, name)?;
     Ok(Some(own))
+}
+
+/// Whether the operation of a binder is a fault, since the class has no member of the name that the binder carries.
+fn is_missing(table: &ClassTable, class: &ClassRef, binder: &Binder, name: &DynText) -> bool
+    requires of { IsClassOf table.now class.now }
+    requires named { name_of binder.now ≡ Some name.now }
+    ensures { result ≡ is_missing (read_name binder.now) (names_of class.now) }
+{
+    must_be_there(Reach::of(binder)) && place_in(table, class, name).is_none()
 }
 
 /// The class of the target, where it is an object.
