@@ -4,6 +4,8 @@
 mod claim;
 mod laws;
 mod reach;
+#[cfg(test)]
+mod tests;
 
 pub use claim::{Claim, ClassClaim, FunClaim};
 pub use laws::sound_rules_hold_under_all_class_maps;
