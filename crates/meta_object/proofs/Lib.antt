@@ -1,5 +1,6 @@
 pub mod Described
 pub mod MemberBounds
 pub mod Nexts
+pub mod OperandMetas
 pub mod OperandTests
 pub mod Targets

@@ -18,10 +18,11 @@ use Rattle.rule_model.specs.Soundness.{is_object, looks_at_none}
 use Rattle.rule_model.specs.Tests.{Form, OneKind, TwoKinds, Member, Index, Called, Known, form_of, called_tests, index_tests, key_tests, known_class, known_of, known_value, member_tests, tests_by, tests_of}
 use Rattle.meta_object.specs.declared.meta.MetaObject.{MetaObject}
 use Rattle.meta_object.specs.declared.meta.Shape.TheVariants.{Plain, Expando}
-use Rattle.meta_object.specs.Metas.{AreMetasOf, IsLendable, IsLentFor, IsMetaOf, class_in_shape, kind_in, known_in, shape_with}
+use Rattle.meta_object.specs.Metas.{IsLendable, IsMetaOf, class_in_shape, kind_in, known_in, shape_with}
+use Rattle.meta_object.specs.Operands.{AreMetasOf, IsLentFor}
 
 -- a metaobject shows the kind of its operand, and the class that is lent
-kind_with : (class : Option ClassRef) (v : Value) → IsLendable class v → kind_in (shape_with class v) ≡ kind_of v
+pub kind_with : (class : Option ClassRef) (v : Value) → IsLendable class v → kind_in (shape_with class v) ≡ kind_of v
 kind_with None v lent = refl
 kind_with (Some class) v lent = sym lent
 
@@ -43,7 +44,7 @@ knows i m v class is lent = record {
 }
 
 -- a class is lent for an object alone
-lent_object : (on : Bool) (v : Value) (class : Option ClassRef) (n : ℕ) → option_map number_of class ≡ cond (not (on && is_object v)) None (Some n) → IsLendable class v
+pub lent_object : (on : Bool) (v : Value) (class : Option ClassRef) (n : ℕ) → option_map number_of class ≡ cond (not (on && is_object v)) None (Some n) → IsLendable class v
 lent_object on v None n e = tt
 lent_object false v (Some class) n e = cc
 lent_object true (value.Obj o) (Some class) n e = refl

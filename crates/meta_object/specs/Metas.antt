@@ -1,5 +1,5 @@
 -- What metaobjects describe.
-use Rattle.std.specs.Prelude.{◌≡◌, ℕ, zero, suc, Bool, true, false, if◌then◌else◌, List, [], ◌∷◌, length, nat_le, slice_get, IsTrue, Option, None, Some, ⊤}
+use Rattle.std.specs.Prelude.{◌≡◌, ℕ, Bool, true, false, List, [], ◌∷◌, length, nat_le, slice_get, IsTrue, Option, None, Some, ⊤}
 use Rattle.std.specs.Option.{option_map}
 use Rattle.dyn_value.specs.declared.value.Kind.{Kind}
 use Rattle.dyn_value.specs.declared.value.Kind.TheVariants as kind
@@ -16,7 +16,6 @@ use Rattle.standard_binders.specs.declared.binder.Binder.TheVariants as binder
 use Rattle.standard_binders.specs.Binders.{is_on_members, operand_count_of}
 use Rattle.standard_binders.specs.Functions.{Functions}
 use Rattle.object_model.specs.Accesses.{is_key}
-use Rattle.rule_model.specs.Soundness.{looks_at_none}
 use Rattle.rule_model.specs.Tests.{Known, known_value}
 use Rattle.meta_object.specs.declared.meta.MetaObject.{MetaObject}
 use Rattle.meta_object.specs.declared.meta.Shape.{Shape}
@@ -55,21 +54,6 @@ pub record IsMetaOf (operand : ℕ) (v : Value) (class : Option ClassRef) (m : M
   pub shape_is : m.shape ≡ shape_with class v
   pub value_is : m.value ≡ known_value v
   pub restrictions_is : m.restrictions ≡ []
-
--- the class is lent to the target
-abbrev pub lent_at : ℕ → Option ClassRef → Option ClassRef
-lent_at zero class = class
-lent_at (suc operand) class = None
-
--- the metaobjects of these operands, in order
-pub record AreMetasOf (operands : List Value) (class : Option ClassRef) (metas : List MetaObject) : Type 0 where
-  pub count : length metas ≡ length operands
-  pub each : (i : ℕ) (m : MetaObject) (v : Value) → slice_get metas i ≡ Some m → slice_get operands i ≡ Some v
-      → IsMetaOf i v (lent_at i class) m
-
--- the class of this number is lent for an operation on an object, and none for one that looks at no object
-abbrev pub IsLentFor : Binder → List Value → ℕ → Option ClassRef → Type 0
-IsLentFor b operands number class = option_map number_of class ≡ (if looks_at_none b operands then None else Some number)
 
 -- whether the name of a member binder may be one
 abbrev pub has_key : Binder → Bool
