@@ -251,6 +251,7 @@ fn parameters_of_functions(rt: HostRuntime) -> Result<(), Fail> {
     }
     let table = FunTable { params };
     assert!(rt; table.len() == 3);
+    assert!(rt; table.has_few_parameters());
     for (number, names) in [
         (0, functions[0]),
         (1, functions[1]),
@@ -258,6 +259,25 @@ fn parameters_of_functions(rt: HostRuntime) -> Result<(), Fail> {
         (3, [].as_slice()),
     ] {
         assert!(rt; are_texts(table.parameters(number), names), "{number}");
+    }
+    Ok(())
+}
+
+#[test]
+fn functions_of_sixteen_and_of_seventeen_parameters(rt: HostRuntime) -> Result<(), Fail> {
+    let alloc = rt.alloc();
+    for (count, is_few) in [(0, true), (16, true), (17, false)] {
+        let mut names = Items::new(alloc);
+        for _ in 0..count {
+            names.push(text(alloc, "a")?)?;
+        }
+        let mut params = Items::new(alloc);
+        params.push(Items::new(alloc))?;
+        params.push(names)?;
+        assert!(rt;
+            FunTable { params }.has_few_parameters() == is_few,
+            "{count}"
+        );
     }
     Ok(())
 }
