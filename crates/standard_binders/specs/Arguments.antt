@@ -20,6 +20,10 @@ pub record AreArguments (a : Arguments) : Type 0 where
 abbrev pub same_arguments : Arguments → Arguments → Bool
 same_arguments a b = nat_eq a.count b.count && pointwise bytes_eq a.names b.names
 
+-- a name after a space
+abbrev pub name_text : List ℕ → List ℕ
+name_text name = 32 ∷ name
+
 -- their count, and each name after a space
 abbrev pub arguments_text : Arguments → List ℕ
-arguments_text a = decimal a.count ++ flat_map (λ name. 32 ∷ name) a.names
+arguments_text a = decimal a.count ++ flat_map name_text a.names

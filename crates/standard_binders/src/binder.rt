@@ -1,23 +1,66 @@
 ghost use Rattle.std.specs.Prelude.{◌≡◌, ◌↔◌, ◌++◌, IsTrue, IfOk, OnOk, OnErr, encode_utf8_all};
 ghost use Rattle.standard_binders.specs.Binders.{operand_count_of, is_on_members, binder_text};
 
-use dyn_value::{BinOp, DynText};
+use crate::call_info::CallInfo;
+use dyn_value::{BinOp, DynText, Kind, UnOp};
 use std::alloc::AllocError;
 
 /// What an operation is asked to do. Sites whose binders are the same share what they learn.
+///
+/// The operands of an operation are its target, then the key of an index, then the value that is set or the
+/// arguments of a call, the named ones last.
 ///
 /// The binders of a member carry its name, and whether the case of its letters is ignored; no binder that is
 /// made so far ignores it.
 #[derive(Debug, Drop)]
 pub enum Binder {
     /// Reads a member.
-    GetMember { name: DynText, ignore_case: bool },
+    GetMember {
+        name: DynText,
+        ignore_case: bool,
+    },
     /// Writes a member, or adds it.
-    SetMember { name: DynText, ignore_case: bool },
+    SetMember {
+        name: DynText,
+        ignore_case: bool,
+    },
     /// Removes a member.
-    DeleteMember { name: DynText, ignore_case: bool },
+    DeleteMember {
+        name: DynText,
+        ignore_case: bool,
+    },
+    /// Reads at a key.
+    GetIndex,
+    /// Writes at a key.
+    SetIndex,
+    /// Removes what stands at a key.
+    DeleteIndex,
+    /// Calls the target.
+    Invoke {
+        info: CallInfo,
+    },
+    /// Reads the member that is to be called with these arguments.
+    InvokeMember {
+        name: DynText,
+        ignore_case: bool,
+        info: CallInfo,
+    },
+    /// Makes an object by the target.
+    CreateInstance {
+        info: CallInfo,
+    },
+    /// Converts the target to a kind.
+    Convert {
+        to: Kind,
+    },
+    /// An operator with one operand.
+    UnaryOperation {
+        op: UnOp,
+    },
     /// An operator with two operands.
-    BinaryOperation { op: BinOp },
+    BinaryOperation {
+        op: BinOp,
+    },
 }
 
 impl Binder {
@@ -26,8 +69,18 @@ impl Binder {
         ensures { result ≡ operand_count_of self.now }
     {
         match self {
-            Binder::GetMember { .. } | Binder::DeleteMember { .. } => 1,
-            Binder::SetMember { .. } | Binder::BinaryOperation { .. } => 2,
+            Binder::GetMember { .. }
+            | Binder::DeleteMember { .. }
+            | Binder::Convert { .. }
+            | Binder::UnaryOperation { .. } => 1,
+            Binder::SetMember { .. }
+            | Binder::GetIndex
+            | Binder::DeleteIndex
+            | Binder::BinaryOperation { .. } => 2,
+            Binder::SetIndex => 3,
+            Binder::Invoke { info }
+            | Binder::InvokeMember { info, .. }
+            | Binder::CreateInstance { info } => info.count() + 1,
         }
     }
 
@@ -36,9 +89,18 @@ impl Binder {
         ensures { result ≡ is_on_members self.now }
     {
         match self {
-            Binder::GetMember { .. } | Binder::SetMember { .. } | Binder::DeleteMember { .. } =>
-                true,
-            Binder::BinaryOperation { .. } => false,
+            Binder::GetMember { .. }
+            | Binder::SetMember { .. }
+            | Binder::DeleteMember { .. }
+            | Binder::GetIndex
+            | Binder::SetIndex
+            | Binder::DeleteIndex
+            | Binder::InvokeMember { .. } => true,
+            Binder::Invoke { .. }
+            | Binder::CreateInstance { .. }
+            | Binder::Convert { .. }
+            | Binder::UnaryOperation { .. }
+            | Binder::BinaryOperation { .. } => false,
         }
     }
 
@@ -68,8 +130,31 @@ impl Binder {
                     ignore_case: other_ignores,
                 },
             ) => name.same(other_name) && ignore_case == other_ignores,
-            (Binder::BinaryOperation { op: left }, Binder::BinaryOperation { op: right }) => {
-                left == right
+            (Binder::GetIndex, Binder::GetIndex) => true,
+            (Binder::SetIndex, Binder::SetIndex) => true,
+            (Binder::DeleteIndex, Binder::DeleteIndex) => true,
+            (Binder::Invoke { info }, Binder::Invoke { info: other_info }) => info.same(other_info),
+            (
+                Binder::InvokeMember {
+                    name,
+                    ignore_case,
+                    info,
+                },
+                Binder::InvokeMember {
+                    name: other_name,
+                    ignore_case: other_ignores,
+                    info: other_info,
+                },
+            ) => name.same(other_name) && ignore_case == other_ignores && info.same(other_info),
+            (Binder::CreateInstance { info }, Binder::CreateInstance { info: other_info }) => {
+                info.same(other_info)
+            }
+            (Binder::Convert { to: mine }, Binder::Convert { to: theirs }) => mine == theirs,
+            (Binder::UnaryOperation { op: mine }, Binder::UnaryOperation { op: theirs }) => {
+                mine == theirs
+            }
+            (Binder::BinaryOperation { op: mine }, Binder::BinaryOperation { op: theirs }) => {
+                mine == theirs
             }
             _ => false,
         }
@@ -92,13 +177,39 @@ impl Binder {
                 name: name.copy()?,
                 ignore_case: *ignore_case,
             },
+            Binder::GetIndex => Binder::GetIndex,
+            Binder::SetIndex => Binder::SetIndex,
+            Binder::DeleteIndex => Binder::DeleteIndex,
+            Binder::Invoke { info } => Binder::Invoke { info: info.copy()? },
+            Binder::InvokeMember {
+                name,
+                ignore_case,
+                info,
+            } => Binder::InvokeMember {
+                name: name.copy()?,
+                ignore_case: *ignore_case,
+                info: info.copy()?,
+            },
+            Binder::CreateInstance { info } => Binder::CreateInstance { info: info.copy()? },
+            Binder::Convert { to } => Binder::Convert { to: *to },
+            Binder::UnaryOperation { op } => Binder::UnaryOperation { op: *op },
             Binder::BinaryOperation { op } => Binder::BinaryOperation { op: *op },
         })
     }
 
-    /// Appends the text of the binder, as UTF-8.
+    /// Appends the text of the binder, as UTF-8. Where memory is refused, `out` stays as it was.
     pub fn print_to(&self, out: &mut Vec<u8>) -> Result<(), AllocError>
         ensures appended { OnOk result (out.new.items ≡ out.old.items ++ encode_utf8_all (binder_text self.now)) }
+        ensures refused { OnErr result (out.new.items ≡ out.old.items) }
+    {
+        let mut text = Vec::new(*out.allocator());
+        self.append_to(&mut text)?;
+        out.extend_from_slice(&text)
+    }
+
+    /// Appends the text of the binder, as UTF-8.
+    fn append_to(&self, out: &mut Vec<u8>) -> Result<(), AllocError>
+        ensures { OnOk result (out.new.items ≡ out.old.items ++ encode_utf8_all (binder_text self.now)) }
     {
         match self {
             Binder::GetMember { name, .. } => {
@@ -113,6 +224,28 @@ impl Binder {
                 out.extend_from_slice(b"DeleteMember ")?;
                 name.quote_to(out)
             }
+            Binder::GetIndex => out.extend_from_slice(b"GetIndex"),
+            Binder::SetIndex => out.extend_from_slice(b"SetIndex"),
+            Binder::DeleteIndex => out.extend_from_slice(b"DeleteIndex"),
+            Binder::Invoke { info } => {
+                out.extend_from_slice(b"Invoke ")?;
+                info.append_to(out)
+            }
+            Binder::InvokeMember { name, info, .. } => {
+                out.extend_from_slice(b"InvokeMember ")?;
+                name.quote_to(out)?;
+                out.push(b' ')?;
+                info.append_to(out)
+            }
+            Binder::CreateInstance { info } => {
+                out.extend_from_slice(b"CreateInstance ")?;
+                info.append_to(out)
+            }
+            Binder::Convert { to } => {
+                out.extend_from_slice(b"Convert ")?;
+                out.extend_from_slice(to.name().as_bytes())
+            }
+            Binder::UnaryOperation { op } => out.extend_from_slice(op.name().as_bytes()),
             Binder::BinaryOperation { op } => out.extend_from_slice(op.name().as_bytes()),
         }
     }

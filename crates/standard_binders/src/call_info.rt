@@ -1,9 +1,11 @@
 //! What a call is handed.
-ghost use Rattle.std.specs.Prelude.{◌≡◌, ◌↔◌, IsOk, IsTrue, IfOk, IfErr, OnOk, OnErr, ◌++◌, encode_utf8_all};
-ghost use Rattle.standard_binders.specs.Arguments.{Arguments, AreArguments, arguments_text};
+ghost use Rattle.std.specs.Prelude.{◌≡◌, ◌↔◌, IsOk, IsTrue, IfOk, IfErr, OnOk, ◌++◌, encode_utf8_all};
+ghost use Rattle.std.specs.List.{flat_map, list_all, zip};
+ghost use Rattle.std.specs.Str.{bytes_eq};
+ghost use Rattle.standard_binders.specs.Arguments.{Arguments, AreArguments, arguments_text, name_text};
 
 use dyn_value::{DynText, are_distinct};
-use std::alloc::{AllocError, Global};
+use std::alloc::AllocError;
 use std::marker::Model;
 
 /// How many arguments a call has, and the names of its named ones, which come last.
@@ -61,4 +63,70 @@ impl CallInfo {
     {
         self.names.as_slice()
     }
+
+    /// Whether the two have as many arguments, with the same names.
+    pub fn same(&self, other: &CallInfo) -> bool
+        ensures { IsTrue result ↔ (self.now ≡ other.now) }
+    {
+        self.count == other.count && are_same(&self.names, &other.names)
+    }
+
+    /// The same count and equal names. The one error is want of memory.
+    pub fn copy(&self) -> Result<CallInfo, AllocError>
+        ensures { IfOk result (λ info. info ≡ self.now) }
+    {
+        let names = copied(&self.names)?;
+        Ok(CallInfo {
+            count: self.count,
+            names,
+        })
+    }
+
+    /// Appends the count, and each name after a space, as UTF-8.
+    pub(crate) fn append_to(&self, out: &mut Vec<u8>) -> Result<(), AllocError>
+        ensures { OnOk result (out.new.items ≡ out.old.items ++ encode_utf8_all (arguments_text self.now)) }
+    {
+        let count = self.count;
+        let digits = format!(in *out.allocator(); "{count}")?;
+        out.extend_from_slice(digits.as_bytes())?;
+        append_names(&self.names, out)
+    }
+}
+
+/// Whether the texts are as many, and the same one by one.
+fn are_same(left: &[DynText], right: &[DynText]) -> bool
+    ensures { IsTrue result ↔ (left.now ≡ right.now) }
+{
+    left.len() == right.len() && all_same(left, right)
+}
+
+/// Whether the texts are the same one by one, as far as both lists go.
+fn all_same(left: &[DynText], right: &[DynText]) -> bool
+    ensures { result ≡ list_all (λ pair. bytes_eq pair.0 pair.1) (zip left.now right.now) }
+{
+    left.iter()
+        .zip(right)
+        .all(|(mine, theirs)| mine.same(theirs))
+}
+
+/// Equal texts in the same order.
+fn copied(names: &Vec<DynText>) -> Result<Vec<DynText>, AllocError>
+    ensures { IfOk result (λ copies. copies.items ≡ names.now.items) }
+{
+    let mut copies = Vec::with_capacity(*names.allocator(), names.len())?;
+    for name in names {
+        copies.push(name.copy()?)?;
+    }
+    Ok(copies)
+}
+
+/// Appends each name after a space, as UTF-8.
+fn append_names(names: &[DynText], out: &mut Vec<u8>) -> Result<(), AllocError>
+    ensures { OnOk result (out.new.items ≡ out.old.items ++ encode_utf8_all (flat_map name_text names.now)) }
+{
+    for name in names {
+        out.push(b' ')?;
+        out.extend_from_slice(name.as_str().as_bytes())?;
+    }
+    Ok(())
 }

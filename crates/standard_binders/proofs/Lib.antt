@@ -1,0 +1,2 @@
+pub mod SameBinders
+mod Appended
