@@ -14,13 +14,12 @@ use Rattle.std.proofs.lemmas.Str.Parse.{numerals_by_value, tells_digits, digits_
 use Rattle.std.proofs.lemmas.Fmt.{decimal_is_IsNumeral, decimal-digits_value, first_decimal, decimal_digit}
 use Rattle.std.proofs.lemmas.List.{get_or_read}
 use Rattle.std.proofs.lemmas.Int.Digits.{digits_value_more}
-use Rattle.std.proofs.lemmas.Bool.{cases_lt}
+use Rattle.std.proofs.lemmas.Bool.{and_parts, cases_lt}
 use Rattle.std.proofs.lemmas.Bool.Decides.{nat_tests}
 use Rattle.script_front.specs.declared.token.Token.TheVariants.{Name, Int, Word, Mark}
 use Rattle.script_front.specs.Lexemes.{IsDigits, Means}
 use Rattle.script_front.specs.TextFronts.{MeansNothing}
 use Rattle.script_front.proofs.FirstCharacters.{digits_kind}
-use Rattle.std.proofs.lemmas.Bool.{and_parts}
 use Rattle.script_front.proofs.TokenMeanings.{means_kind}
 
 digit_range : (c : ℕ) → is_ascii_digit c ≡ true → (48 ≤ c) × (c ≤ 57)
