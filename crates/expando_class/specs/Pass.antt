@@ -35,6 +35,11 @@ abbrev pub Learns : ClassPass → ClassPass → ClassRef → Type 0
 Learns old new class = (number : ℕ) →
     class_map new number ≡ cond (number_of class == number) (Some (names_of class)) (class_map old number)
 
+-- the pass knows all that it knew
+abbrev pub KnowsAll : ClassPass → ClassPass → Type 0
+KnowsAll old new = (number : ℕ) (names : List (List ℕ)) →
+    class_map old number ≡ Some names → class_map new number ≡ Some names
+
 -- the pass knows what it knew, and no more
 abbrev pub KnowsSame : ClassPass → ClassPass → Type 0
 KnowsSame old new = (number : ℕ) → class_map new number ≡ class_map old number

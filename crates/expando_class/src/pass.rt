@@ -21,7 +21,7 @@ pub struct ClassPass {
 impl ClassPass {
     ghost use Rattle.expando_class.specs.declared.table.ClassTable.{ClassTable};
     ghost use Rattle.expando_class.specs.Class.{number_of, names_of, IsClassOf};
-    ghost use Rattle.expando_class.specs.Pass.{class_map, IsPassOf, KnowsRootAlone, KnowsNone, KnowsEachOnce, Learns, KnowsSame};
+    ghost use Rattle.expando_class.specs.Pass.{class_map, IsPassOf, KnowsRootAlone, KnowsNone, KnowsEachOnce, Learns, KnowsAll, KnowsSame};
 
     // A pass that knows the root alone.
     pub(crate) fn new(alloc: Global) -> Result<ClassPass, AllocError>
@@ -71,6 +71,7 @@ impl ClassPass {
         ensures learns { IfOk result (λ _. Learns self.old self.new class.now) }
         ensures of { (table : ClassTable) → IsPassOf table self.old → IsClassOf table class.now
             → IsPassOf table self.new }
+        ensures keeps { KnowsAll self.old self.new }
         ensures err { IfErr result (λ _. KnowsSame self.old self.new) }
     {
         let number = class.number();

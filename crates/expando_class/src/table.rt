@@ -1,6 +1,7 @@
 //! The table of classes, and what a pass does with it.
-ghost use Rattle.std.specs.Prelude.{◌≡◌, ◌≢◌, ◌+◌, ◌<◌, ◌≤◌, ◌++◌, ◌∷◌, ◌↔◌, ℕ, [], length, All, Some, None, IsTrue, IsSome, IfSome, IfNone, IfOk, IfErr, cond, ◌==◌, slice_get};
-ghost use Rattle.expando_class.specs.Listing.{AreNames, without};
+ghost use Rattle.std.specs.Prelude.{◌≡◌, ◌≢◌, ◌<◌, ◌≤◌, ◌++◌, ◌∷◌, ◌↔◌, ℕ, [], length, All, Some, None, IsTrue, IsSome, IfSome, IfNone, IfOk, IfErr, slice_get, remove};
+ghost use Rattle.std.specs.Str.{chars};
+ghost use Rattle.expando_class.specs.Listing.{AreNames};
 
 use crate::class::ClassRef;
 use crate::names::Names;
@@ -18,7 +19,7 @@ pub struct ClassTable {
 
 impl ClassTable {
     ghost use Rattle.expando_class.specs.Class.{number_of, names_of, IsClassOf};
-    ghost use Rattle.expando_class.specs.Pass.{class_map, IsPassOf, KnowsRootAlone, KnowsNone, Learns, KnowsSame};
+    ghost use Rattle.expando_class.specs.Pass.{class_map, IsPassOf, KnowsRootAlone, KnowsNone, Learns, KnowsAll, KnowsSame};
 
     /// A table with the root class alone, which has the number 0 and no names, or want of memory.
     pub fn new(alloc: Global) -> Result<ClassTable, AllocError> {
@@ -59,8 +60,8 @@ impl ClassTable {
     /// The place of a name in a class. `None` exactly where the class has no such name.
     pub fn place_of(&self, class: &ClassRef, name: &str) -> Option<u16>
         requires { IsClassOf self.now class.now }
-        ensures some { IfSome result (λ place. slice_get (names_of class.now) place ≡ Some name.now) }
-        ensures none { IfNone result (All (λ other. other ≢ name.now) (names_of class.now)) }
+        ensures some { IfSome result (λ place. slice_get (names_of class.now) place ≡ Some (chars name.now)) }
+        ensures none { IfNone result (All (λ other. other ≢ chars name.now) (names_of class.now)) }
     {
         self.names(class).place_of(name)
     }
@@ -78,7 +79,7 @@ impl ClassTable {
     pub fn name_at(&self, class: &ClassRef, place: u16) -> &str
         requires of { IsClassOf self.now class.now }
         requires place { place < length (names_of class.now) }
-        ensures { slice_get (names_of class.now) place ≡ Some result.now }
+        ensures { slice_get (names_of class.now) place ≡ Some (chars result.now) }
     {
         self.names(class).name_at(place)
     }
@@ -116,8 +117,8 @@ impl ClassTable {
     }
 
     /// The class with one name more, at the end. Where the pass knows a class with that list, it is that class. Else
-    /// its number is one that the pass did not know. The pass knows it from then on. For want of memory the pass
-    /// knows what it knew.
+    /// its number is one that the pass did not know. The pass knows it from then on, with all that it knew before. For
+    /// want of memory the pass knows what it knew.
     pub fn add(
         &self,
         rt: &impl Wait,
@@ -127,17 +128,18 @@ impl ClassTable {
     ) -> Result<ClassRef, AllocError>
         requires pass { IsPassOf self.now pass.old }
         requires of { IsClassOf self.now class.now }
-        requires new { All (λ other. other ≢ name.now) (names_of class.now) }
+        requires new { All (λ other. other ≢ chars name.now) (names_of class.now) }
         requires short { length name.now ≤ 64 }
         requires room { length (names_of class.now) < 64 }
         ensures pass { IsPassOf self.now pass.new }
         ensures of { IfOk result (IsClassOf self.now) }
-        ensures names { IfOk result (λ added. names_of added ≡ names_of class.now ++ name.now ∷ []) }
+        ensures names { IfOk result (λ added. names_of added ≡ names_of class.now ++ chars name.now ∷ []) }
         ensures known { IfOk result (λ added. (number : ℕ) →
             class_map pass.old number ≡ Some (names_of added) → number_of added ≡ number) }
         ensures fresh { IfOk result (λ added. KnowsNone pass.old (names_of added)
             → class_map pass.old (number_of added) ≡ None) }
         ensures learns { IfOk result (Learns pass.old pass.new) }
+        ensures keeps { KnowsAll pass.old pass.new }
         ensures err { IfErr result (λ _. KnowsSame pass.old pass.new) }
     {
         self.class_with(rt, pass, self.names(class).with(name)?)
@@ -156,12 +158,13 @@ impl ClassTable {
         requires place { place < length (names_of class.now) }
         ensures pass { IsPassOf self.now pass.new }
         ensures of { IfOk result (IsClassOf self.now) }
-        ensures names { IfOk result (λ left. names_of left ≡ without (names_of class.now) place) }
+        ensures names { IfOk result (λ left. names_of left ≡ remove (names_of class.now) place) }
         ensures known { IfOk result (λ left. (number : ℕ) →
             class_map pass.old number ≡ Some (names_of left) → number_of left ≡ number) }
         ensures fresh { IfOk result (λ left. KnowsNone pass.old (names_of left)
             → class_map pass.old (number_of left) ≡ None) }
         ensures learns { IfOk result (Learns pass.old pass.new) }
+        ensures keeps { KnowsAll pass.old pass.new }
         ensures err { IfErr result (λ _. KnowsSame pass.old pass.new) }
     {
         self.class_with(rt, pass, self.names(class).without(place)?)
@@ -183,6 +186,7 @@ impl ClassTable {
         ensures fresh { IfOk result (λ class. KnowsNone pass.old names
             → class_map pass.old (number_of class) ≡ None) }
         ensures learns { IfOk result (Learns pass.old pass.new) }
+        ensures keeps { KnowsAll pass.old pass.new }
         ensures err { IfErr result (λ _. KnowsSame pass.old pass.new) }
     {
         if let Some(class) = pass.find(&names) {

@@ -1,13 +1,16 @@
-//! What no clause says: which number a new class gets, that a class is shown, and that threads may add at once.
+//! What no clause says: which number a new class gets, that each class is shown, and that threads may add at once.
 ghost use Rattle.std.specs.Prelude.{IfSome};
 ghost use Rattle.expando_class.specs.Class.{IsClassOf};
 ghost use Rattle.expando_class.specs.Pass.{IsPassOf};
 
 use crate::{ClassPass, ClassRef, ClassTable};
-use std::alloc::Global;
+use std::alloc::{AllocError, Global};
 use std::sync::Wait;
 use std::test::Fail;
 use std::thread;
+
+// More classes than a table has room for at first.
+const MANY: u128 = 150;
 
 // The class with a name more, if it may be added.
 fn with_name(
@@ -93,6 +96,34 @@ fn adds_x(rt: &impl Wait, alloc: Global, table: &ClassTable) -> Option<ClassRef>
     with_name(rt, table, &mut pass, &table.root(), "x")
 }
 
+// Adds many classes of one name each to the root in a pass of its own. Whether the table shows each at once.
+fn adds_many(rt: &impl Wait, alloc: Global, table: &ClassTable, kind: &str) -> Option<bool> {
+    let Ok(mut pass) = table.pass(alloc) else {
+        return None;
+    };
+    let root = table.root();
+    let mut all_shown = true;
+    for place in 0..MANY {
+        let name = format!(in alloc; "{kind}_{place}").ok()?;
+        let class = with_name(rt, table, &mut pass, &root, &name)?;
+        all_shown &= shows(table, &class);
+    }
+    Some(all_shown)
+}
+
+// Whether the table shows so many classes of one name at the numbers after the root's.
+fn shows_each(table: &ClassTable, count: u128) -> bool {
+    for place in 0..count {
+        let Some(class) = table.look(place + 1) else {
+            return false;
+        };
+        if table.size(&class) != 1 {
+            return false;
+        }
+    }
+    true
+}
+
 #[test]
 fn classes_have_numbers_and_lists(rt: HostRuntime) -> Result<(), Fail> {
     let table = ClassTable::new(rt.alloc())?;
@@ -143,5 +174,40 @@ fn two_threads_add_one_list(rt: HostRuntime) -> Result<(), Fail> {
     );
     assert!(rt; !table.same(&one, &other));
     assert!(rt; shows(&table, &one) && shows(&table, &other));
+    Ok(())
+}
+
+#[test]
+fn each_of_many_classes_is_shown_and_added_once(rt: HostRuntime) -> Result<(), Fail> {
+    let table = ClassTable::new(rt.alloc())?;
+    let mut pass = table.pass(rt.alloc())?;
+    let root = table.root();
+    for _round in 0..3 {
+        for place in 0..MANY {
+            let name = format!(in rt.alloc(); "name_{place}")?;
+            let class = with_name(&rt, &table, &mut pass, &root, &name).ok_or("add")?;
+            assert_eq!(rt; class.number(), place + 1);
+            assert!(rt; shows(&table, &class));
+            let emptied = without_place(&rt, &table, &mut pass, &class, 0).ok_or("remove")?;
+            assert_eq!(rt; emptied.number(), 0);
+        }
+    }
+    let more = with_name(&rt, &table, &mut pass, &root, "more").ok_or("more")?;
+    assert_eq!(rt; more.number(), MANY + 1);
+    assert!(rt; shows_each(&table, MANY + 1) && table.look(MANY + 2).is_none());
+    Ok(())
+}
+
+#[test]
+fn the_classes_of_other_threads_are_shown(rt: HostRuntime) -> Result<(), Fail> {
+    let table = ClassTable::new(rt.alloc())?;
+    let alloc = rt.alloc();
+    let (one, other) = thread::join(
+        &rt,
+        || adds_many(&rt, alloc, &table, "one"),
+        || adds_many(&rt, alloc, &table, "other"),
+    );
+    assert!(rt; one.ok_or("one")? && other.ok_or("other")?);
+    assert!(rt; shows_each(&table, 2 * MANY) && table.look(2 * MANY + 1).is_none());
     Ok(())
 }

@@ -1,7 +1,6 @@
 //! The state of one object.
 ghost use Rattle.std.specs.Prelude.{◌≡◌, ℕ, ◌+◌, ◌<◌, ◌≤◌, ◌++◌, ◌∷◌, List, [], length, Some, OnOk, OnErr, slice_get, slice_set, remove};
 ghost use Rattle.expando_class.specs.Class.{names_of};
-ghost use Rattle.expando_class.specs.Listing.{without};
 
 use dyn_value::Value;
 use expando_class::ClassRef;
@@ -87,7 +86,7 @@ impl ObjState {
     /// It takes no memory and gives none back.
     pub fn remove(&mut self, place: u16, class: ClassRef) -> Value
         requires place { place < length (names_in self.old) }
-        requires names { names_of class ≡ without (names_in self.old) place }
+        requires names { names_of class ≡ remove (names_in self.old) place }
         ensures stood { slice_get (values_in self.old) place ≡ Some result }
         ensures class { class_in self.new ≡ class }
         ensures values { values_in self.new ≡ remove (values_in self.old) place }

@@ -1,5 +1,5 @@
 -- Bodies over the state of an object: what is prepared for one, and to which class it moves the object.
-use Rattle.std.specs.Prelude.{◌≡◌, ◌≤◌, ℕ, List, [], ◌∷◌, ◌++◌, Option, Some, None, ⊤, IsSomeAnd}
+use Rattle.std.specs.Prelude.{◌≡◌, ◌≤◌, ℕ, List, [], ◌∷◌, ◌++◌, Option, Some, None, ⊤, IsSomeAnd, remove}
 use Rattle.dyn_value.specs.declared.value.Value.{Value}
 use Rattle.dyn_value.specs.declared.outcome.Outcome.{Outcome}
 use Rattle.expr_tree.specs.declared.node.Node.{Node}
@@ -7,7 +7,6 @@ use Rattle.expr_tree.specs.declared.node.Node.TheVariants.{Write, Append, Remove
 use Rattle.expr_tree.specs.Meanings.{State, at, answer_in, IsThere}
 use Rattle.expando_class.specs.declared.class.ClassRef.{ClassRef}
 use Rattle.expando_class.specs.Class.{number_of, names_of}
-use Rattle.expando_class.specs.Listing.{without}
 use Rattle.expando_object.specs.declared.state.ObjState.{ObjState}
 use Rattle.expando_object.specs.State.{class_in, names_in, values_in, spare_in}
 use Rattle.tree_eval.specs.declared.prepared.Prepared.{Prepared}
@@ -41,7 +40,7 @@ pub record IsPrepared (p : Prepared) (ops : List Value) (s : ObjState) (n : Node
 -- the class to which a body with this root moves an object with these names: the one that an Append or a Remove names
 abbrev pub IsClassAfter : Option ClassRef → List (List ℕ) → Node → Type 0
 IsClassAfter after names (Append c a) = IsSomeAnd after (λ class. (number_of class ≡ c) × ((name : List ℕ) × (names_of class ≡ names ++ name ∷ [])))
-IsClassAfter after names (Remove p c) = IsSomeAnd after (λ class. (number_of class ≡ c) × (names_of class ≡ without names p))
+IsClassAfter after names (Remove p c) = IsSomeAnd after (λ class. (number_of class ≡ c) × (names_of class ≡ remove names p))
 IsClassAfter after names _ = after ≡ None
 
 -- the names of that class
