@@ -96,9 +96,19 @@ impl Binder {
         })
     }
 
-    /// Appends the text of the binder, as UTF-8.
+    /// Appends the text of the binder, as UTF-8. Where memory is refused, `out` stays as it was.
     pub fn print_to(&self, out: &mut Vec<u8>) -> Result<(), AllocError>
         ensures appended { OnOk result (out.new.items ≡ out.old.items ++ encode_utf8_all (binder_text self.now)) }
+        ensures refused { OnErr result (out.new.items ≡ out.old.items) }
+    {
+        let mut text = Vec::new(*out.allocator());
+        self.append_to(&mut text)?;
+        out.extend_from_slice(text.as_slice())
+    }
+
+    // Appends the text, or a part of it where memory is refused.
+    fn append_to(&self, out: &mut Vec<u8>) -> Result<(), AllocError>
+        ensures { OnOk result (out.new.items ≡ out.old.items ++ encode_utf8_all (binder_text self.now)) }
     {
         match self {
             Binder::GetMember { name, .. } => {
