@@ -57,7 +57,7 @@ impl TopOutcome {
 }
 
 /// The command: its words, a source that the script is read from, and a sink that the text is written to.
-pub fn top<R: Threads + Wait, S: Source, K: Sink, G: Gate>(
+pub fn top<R: Threads + Wait + Sync, S: Source, K: Sink, G: Gate>(
     rt: &R,
     alloc: Global,
     words: &[DynText],

@@ -1,7 +1,8 @@
-ghost use Rattle.std.specs.Prelude.{◌≡◌, ◌++◌, OnOk, slice_get, encode_utf8_all};
+ghost use Rattle.std.specs.Prelude.{OnOk, OnErr, slice_get};
 ghost use Rattle.std.specs.List.{flat_map};
+ghost use Rattle.program_eval.specs.Stores.{Begins};
 ghost use Rattle.script_front.specs.Programs.{script_of, binders_of};
-ghost use Rattle.dlr_top.specs.Rendering.{entry_text, name_of, operand_text, outcome_text, text_of};
+ghost use Rattle.dlr_top.specs.Rendering.{AddsText, entry_text, name_of, operand_text, outcome_text, text_of};
 
 use crate::report::texts::{put_ascii, put_text};
 use dyn_value::{Entry, Outcome, Value};
@@ -14,7 +15,8 @@ pub(crate) fn render_entry(
     entry: &Entry,
     out: &mut Vec<u8>,
 ) -> Result<(), AllocError>
-    ensures { OnOk result (out.new.items ≡ out.old.items ++ encode_utf8_all (entry_text program.now entry.now)) }
+    ensures appended { OnOk result (AddsText out.old out.new (entry_text program.now entry.now)) }
+    ensures begins { OnErr result (Begins out.old.items out.new.items) }
 {
     put_ascii("  ", out)?;
     render_task_name(program, entry.task, out)?;
@@ -28,7 +30,8 @@ pub(crate) fn render_entry(
 
 /// Appends the name of the task of this number.
 fn render_task_name(program: &Program, task: u32, out: &mut Vec<u8>) -> Result<(), AllocError>
-    ensures { OnOk result (out.new.items ≡ out.old.items ++ encode_utf8_all (name_of (slice_get (script_of program.now).tasks task))) }
+    ensures appended { OnOk result (AddsText out.old out.new (name_of (slice_get (script_of program.now).tasks task))) }
+    ensures begins { OnErr result (Begins out.old.items out.new.items) }
 {
     match program.tasks().get(task as usize) {
         Some(task) => put_text(&task.name, out),
@@ -38,7 +41,8 @@ fn render_task_name(program: &Program, task: u32, out: &mut Vec<u8>) -> Result<(
 
 /// Appends the text of the binder of this number.
 fn render_binder(program: &Program, binder: u32, out: &mut Vec<u8>) -> Result<(), AllocError>
-    ensures { OnOk result (out.new.items ≡ out.old.items ++ encode_utf8_all (text_of (slice_get (binders_of program.now) binder))) }
+    ensures appended { OnOk result (AddsText out.old out.new (text_of (slice_get (binders_of program.now) binder))) }
+    ensures begins { OnErr result (Begins out.old.items out.new.items) }
 {
     match program.binders().get(binder as usize) {
         Some(binder) => binder.print_to(out),
@@ -48,7 +52,8 @@ fn render_binder(program: &Program, binder: u32, out: &mut Vec<u8>) -> Result<()
 
 /// Appends the quoted operands, each after a space.
 fn render_operands(operands: &[Value], out: &mut Vec<u8>) -> Result<(), AllocError>
-    ensures { OnOk result (out.new.items ≡ out.old.items ++ encode_utf8_all (flat_map operand_text operands.now)) }
+    ensures appended { OnOk result (AddsText out.old out.new (flat_map operand_text operands.now)) }
+    ensures begins { OnErr result (Begins out.old.items out.new.items) }
 {
     for operand in operands {
         render_operand(operand, out)?;
@@ -57,7 +62,8 @@ fn render_operands(operands: &[Value], out: &mut Vec<u8>) -> Result<(), AllocErr
 }
 
 fn render_operand(operand: &Value, out: &mut Vec<u8>) -> Result<(), AllocError>
-    ensures { OnOk result (out.new.items ≡ out.old.items ++ encode_utf8_all (operand_text operand.now)) }
+    ensures appended { OnOk result (AddsText out.old out.new (operand_text operand.now)) }
+    ensures begins { OnErr result (Begins out.old.items out.new.items) }
 {
     put_ascii(" ", out)?;
     operand.quote_to(out)
@@ -65,7 +71,8 @@ fn render_operand(operand: &Value, out: &mut Vec<u8>) -> Result<(), AllocError>
 
 /// Appends the quoted value, or the fault after `! `.
 fn render_outcome(outcome: &Outcome, out: &mut Vec<u8>) -> Result<(), AllocError>
-    ensures { OnOk result (out.new.items ≡ out.old.items ++ encode_utf8_all (outcome_text outcome.now)) }
+    ensures appended { OnOk result (AddsText out.old out.new (outcome_text outcome.now)) }
+    ensures begins { OnErr result (Begins out.old.items out.new.items) }
 {
     match outcome {
         Outcome::Value(value) => value.quote_to(out),

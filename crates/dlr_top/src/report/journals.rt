@@ -1,8 +1,9 @@
-ghost use Rattle.std.specs.Prelude.{◌≡◌, ◌++◌, [], IfOk, OnOk, encode_utf8_all};
+ghost use Rattle.std.specs.Prelude.{◌≡◌, [], IfOk, OnOk, OnErr};
 ghost use Rattle.std.specs.List.{flat_map};
 ghost use Rattle.object_model.specs.Journals.{entry_step, members_after};
+ghost use Rattle.program_eval.specs.Stores.{Begins};
 ghost use Rattle.dlr_top.specs.Lawful.{IsLawful, journal_at};
-ghost use Rattle.dlr_top.specs.Rendering.{entry_text, journals_text, member_text, members_text, object_count, object_text};
+ghost use Rattle.dlr_top.specs.Rendering.{AddsText, entry_text, journals_text, member_text, members_text, object_count, object_text};
 
 use crate::report::Report;
 use crate::report::entries::render_entry;
@@ -20,7 +21,8 @@ pub(crate) fn render_journals(
     out: &mut Vec<u8>,
 ) -> Result<(), AllocError>
     requires { IsLawful program.now report.now }
-    ensures { OnOk result (out.new.items ≡ out.old.items ++ encode_utf8_all (journals_text program.now report.now)) }
+    ensures appended { OnOk result (AddsText out.old out.new (journals_text program.now report.now)) }
+    ensures begins { OnErr result (Begins out.old.items out.new.items) }
 {
     let count = object_count_of(program, report);
     for object in 0..count {
@@ -49,7 +51,8 @@ fn render_object(
     object: u32,
     out: &mut Vec<u8>,
 ) -> Result<(), AllocError>
-    ensures { OnOk result (out.new.items ≡ out.old.items ++ encode_utf8_all (object_text program.now report.now object)) }
+    ensures appended { OnOk result (AddsText out.old out.new (object_text program.now report.now object)) }
+    ensures begins { OnErr result (Begins out.old.items out.new.items) }
 {
     let journal = journal_of(report, object);
     put_ascii("object ", out)?;
@@ -73,7 +76,8 @@ fn journal_of(report: &Report, object: u32) -> &[Entry]
 }
 
 fn render_entries(program: &Program, journal: &[Entry], out: &mut Vec<u8>) -> Result<(), AllocError>
-    ensures { OnOk result (out.new.items ≡ out.old.items ++ encode_utf8_all (flat_map (entry_text program.now) journal.now)) }
+    ensures appended { OnOk result (AddsText out.old out.new (flat_map (entry_text program.now) journal.now)) }
+    ensures begins { OnErr result (Begins out.old.items out.new.items) }
 {
     for entry in journal {
         render_entry(program, entry, out)?;
@@ -111,7 +115,8 @@ fn replay(members: &mut ObjectMembers, binders: &[Binder], entry: &Entry) -> Res
 
 /// Appends the members, with a comma after all but the last.
 fn render_members(members: &[Member], out: &mut Vec<u8>) -> Result<(), AllocError>
-    ensures { OnOk result (out.new.items ≡ out.old.items ++ encode_utf8_all (members_text members.now)) }
+    ensures appended { OnOk result (AddsText out.old out.new (members_text members.now)) }
+    ensures begins { OnErr result (Begins out.old.items out.new.items) }
 {
     let [first, others @ ..] = members else {
         return Ok(());
@@ -125,7 +130,8 @@ fn render_members(members: &[Member], out: &mut Vec<u8>) -> Result<(), AllocErro
 }
 
 fn render_member(member: &Member, out: &mut Vec<u8>) -> Result<(), AllocError>
-    ensures { OnOk result (out.new.items ≡ out.old.items ++ encode_utf8_all (member_text member.now)) }
+    ensures appended { OnOk result (AddsText out.old out.new (member_text member.now)) }
+    ensures begins { OnErr result (Begins out.old.items out.new.items) }
 {
     put_ascii(" ", out)?;
     member.name.quote_to(out)?;

@@ -1,7 +1,8 @@
-ghost use Rattle.std.specs.Prelude.{◌≡◌, ◌++◌, length, IfOk, OnOk, OnErr, encode_utf8_all};
+ghost use Rattle.std.specs.Prelude.{◌≡◌, length, OnOk, OnErr};
+ghost use Rattle.program_eval.specs.Stores.{Begins};
 ghost use Rattle.script_front.specs.Programs.{script_of};
 ghost use Rattle.dlr_top.specs.Lawful.{IsLawful};
-ghost use Rattle.dlr_top.specs.Rendering.{line_text, ended_text, task_text, tasks_text, journals_if, report_text};
+ghost use Rattle.dlr_top.specs.Rendering.{AddsText, line_text, ended_text, task_text, lines_text, journals_if, report_text};
 
 use crate::report::journals::render_journals;
 use crate::report::texts::{put_ascii, put_text};
@@ -10,7 +11,7 @@ use crate::words::Options;
 use dyn_value::DynText;
 use program_eval::Ended;
 use script_front::{Program, Task};
-use std::alloc::{AllocError, Global};
+use std::alloc::AllocError;
 
 /// Appends the text of a lawful report, as UTF-8. Where memory is refused, `out` stays as it was.
 pub fn render(
@@ -20,27 +21,30 @@ pub fn render(
     out: &mut Vec<u8>,
 ) -> Result<(), AllocError>
     requires { IsLawful program.now report.now }
-    ensures appended { OnOk result (out.new.items ≡ out.old.items ++ encode_utf8_all (report_text program.now options.now report.now)) }
+    ensures appended { OnOk result (AddsText out.old out.new (report_text program.now options.now report.now)) }
     ensures refused { OnErr result (out.new.items ≡ out.old.items) }
 {
-    let text = rendered(*out.allocator(), program, options, report)?;
-    out.extend_from_slice(text.as_slice())
+    let held = out.len();
+    let rendered = render_whole(program, options, report, out);
+    if rendered.is_err() {
+        out.truncate(held);
+    }
+    rendered
 }
 
-/// The text of a lawful report.
-fn rendered(
-    alloc: Global,
+/// Appends the text of a lawful report. Where memory is refused, `out` may be left with a part of it.
+fn render_whole(
     program: &Program,
     options: &Options,
     report: &Report,
-) -> Result<Vec<u8>, AllocError>
+    out: &mut Vec<u8>,
+) -> Result<(), AllocError>
     requires { IsLawful program.now report.now }
-    ensures { IfOk result (λ text. text.items ≡ encode_utf8_all (report_text program.now options.now report.now)) }
+    ensures appended { OnOk result (AddsText out.old out.new (report_text program.now options.now report.now)) }
+    ensures begins { OnErr result (Begins out.old.items out.new.items) }
 {
-    let mut text = Vec::new(alloc);
-    render_tasks(program, report, &mut text)?;
-    render_asked_journals(program, options, report, &mut text)?;
-    Ok(text)
+    render_tasks(program, report, out)?;
+    render_asked_journals(program, options, report, out)
 }
 
 /// Appends the journals, where they were asked for.
@@ -51,7 +55,8 @@ fn render_asked_journals(
     out: &mut Vec<u8>,
 ) -> Result<(), AllocError>
     requires { IsLawful program.now report.now }
-    ensures { OnOk result (out.new.items ≡ out.old.items ++ encode_utf8_all (journals_if options.now.journal program.now report.now)) }
+    ensures appended { OnOk result (AddsText out.old out.new (journals_if options.now.journal program.now report.now)) }
+    ensures begins { OnErr result (Begins out.old.items out.new.items) }
 {
     if options.journal {
         return render_journals(program, report, out);
@@ -62,7 +67,8 @@ fn render_asked_journals(
 /// Appends for each task its lines, and its fault where it ended by one.
 fn render_tasks(program: &Program, report: &Report, out: &mut Vec<u8>) -> Result<(), AllocError>
     requires { length report.now.tasks ≡ length (script_of program.now).tasks }
-    ensures { OnOk result (out.new.items ≡ out.old.items ++ encode_utf8_all (tasks_text (script_of program.now).tasks report.now.tasks)) }
+    ensures appended { OnOk result (AddsText out.old out.new (lines_text program.now report.now)) }
+    ensures begins { OnErr result (Begins out.old.items out.new.items) }
 {
     let ends = report.tasks.as_slice();
     for (at, task) in program.tasks().iter().enumerate() {
@@ -73,7 +79,8 @@ fn render_tasks(program: &Program, report: &Report, out: &mut Vec<u8>) -> Result
 
 /// Appends the lines of a task, and its fault where it ended by one.
 fn render_task(task: &Task, end: &TaskEnd, out: &mut Vec<u8>) -> Result<(), AllocError>
-    ensures { OnOk result (out.new.items ≡ out.old.items ++ encode_utf8_all (task_text task.now end.now)) }
+    ensures appended { OnOk result (AddsText out.old out.new (task_text task.now end.now)) }
+    ensures begins { OnErr result (Begins out.old.items out.new.items) }
 {
     for line in end.lines.as_slice() {
         render_line(&task.name, line, out)?;
@@ -83,7 +90,8 @@ fn render_task(task: &Task, end: &TaskEnd, out: &mut Vec<u8>) -> Result<(), Allo
 
 /// Appends a printed line.
 fn render_line(name: &DynText, line: &DynText, out: &mut Vec<u8>) -> Result<(), AllocError>
-    ensures { OnOk result (out.new.items ≡ out.old.items ++ encode_utf8_all (line_text name.now line.now)) }
+    ensures appended { OnOk result (AddsText out.old out.new (line_text name.now line.now)) }
+    ensures begins { OnErr result (Begins out.old.items out.new.items) }
 {
     put_text(name, out)?;
     put_ascii(": ", out)?;
@@ -93,7 +101,8 @@ fn render_line(name: &DynText, line: &DynText, out: &mut Vec<u8>) -> Result<(), 
 
 /// Appends the fault by which a task ended, if it did.
 fn render_ended(name: &DynText, ended: &Ended, out: &mut Vec<u8>) -> Result<(), AllocError>
-    ensures { OnOk result (out.new.items ≡ out.old.items ++ encode_utf8_all (ended_text name.now ended.now)) }
+    ensures appended { OnOk result (AddsText out.old out.new (ended_text name.now ended.now)) }
+    ensures begins { OnErr result (Begins out.old.items out.new.items) }
 {
     match ended {
         Ended::Done => Ok(()),

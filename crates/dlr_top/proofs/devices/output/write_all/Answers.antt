@@ -1,4 +1,4 @@
-use Rattle.std.proofs.Common.{◌≡◌, ◌∙◌, ◌-◌, length, length-drop, take, arith, ap, OnErr, Result, Ok, Err}
+use Rattle.std.proofs.Common.{◌≡◌, ◌∙◌, ◌-◌, ◌<◌, length, length-drop, take, arith, ap, OnErr, Result, Ok, Err}
 use Rattle.dlr_top.specs.Devices.{Adds}
 use Rattle.dlr_top.proofs.Moves.{adds_on, adds_front}
 use Rattle.dlr_top.proofs.devices.output.write_all.Goals as goal
@@ -12,7 +12,8 @@ returns-in_err-at-clause-front g c =
     let before = g.K.Sink.has c.args.sink.now in
     let kept = c.in_err-at.ensures.kept in
     let adds : Adds before (g.K.Sink.has c.write.new.self) (take c.loop-at.at c.args.text.now) = rw kept.0 c.loop-at.invariant.added in
-    holds_on_err c.from_residual.result (adds_front before (g.K.Sink.has c.write.new.self) c.args.text.now c.loop-at.at adds)
+    let inside : c.loop-at.at < length c.args.text.now = omega (arith, c.loop-at-test.true) in
+    holds_on_err c.from_residual.result (adds_front before (g.K.Sink.has c.write.new.self) c.args.text.now c.loop-at.at inside adds)
 
 pub loop-at-preserved : goal.loop-at-preserved
 loop-at-preserved g c =

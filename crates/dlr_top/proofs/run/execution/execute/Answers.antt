@@ -1,6 +1,6 @@
 use Rattle.std.proofs.Common.{ℕ, List, Err, ◌∙◌, ap, subst}
 use Rattle.dlr_top.specs.declared.devices.output.Unwritten.{Unwritten}
-use Rattle.dlr_top.specs.Devices.{Adds, AddsFirst}
+use Rattle.dlr_top.specs.Devices.{Adds, AddsProperFront}
 use Rattle.dlr_top.proofs.Endings.{whole_report, front_report}
 use Rattle.dlr_top.proofs.run.execution.execute.Goals as goal
 
@@ -20,7 +20,7 @@ returns-in-Err-SinkFailed-clause-report g c =
     let after = g.K.Sink.has c.deliver.new.sink in
     let text = c.as_slice.ensures.value ∙ c.in-Ok.ensures.text in
     let front = c.in-Err-SinkFailed.ensures.front (ap (λ (e : Unwritten). Err e) c.in-Err-SinkFailed.field-0-is) in
-    let adds = subst (λ (l : List ℕ). AddsFirst before after l) text front in
+    let adds = subst (λ (l : List ℕ). AddsProperFront before after l) text front in
     rw c.with_report-in-Err-SinkFailed.ensures.report (λ held words read commanded.
     front_report c.args.program.now c.args.options.now c.in-Ok.run'.0 c.with_report-in-Err-SinkFailed.result.status words held before after
     read commanded c.in-Ok.ensures.lawful c.in-Ok.ensures.serial adds c.with_report-in-Err-SinkFailed.ensures.status)
