@@ -26,7 +26,7 @@ use Rattle.dyn_value.specs.declared.outcome.Outcome.TheVariants as outcome
 use Rattle.program_eval.specs.Stores.{updated}
 use Rattle.script_front.specs.declared.program.Program.{Program}
 use Rattle.script_front.specs.Programs.{binders_of}
-use Rattle.dlr_top.specs.declared.plain_object.EntryHead.{EntryHead}
+use Rattle.dlr_top.specs.declared.run.plain_object.EntryHead.{EntryHead}
 use Rattle.dlr_top.specs.Lawful.{journal_at, limit_of}
 use Rattle.dlr_top.specs.Recorded.{Recorded, untouched, entry_by, recorded_step, journals_in, IsKept, AreKept}
 

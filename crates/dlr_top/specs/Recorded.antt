@@ -10,7 +10,7 @@ use Rattle.object_model.specs.Steps.{object_step}
 use Rattle.script_front.specs.declared.program.Program.{Program}
 use Rattle.script_front.specs.Programs.{binders_of}
 use Rattle.dlr_top.specs.Lawful.{limit_of}
-use Rattle.dlr_top.specs.declared.plain_object.EntryHead.{EntryHead}
+use Rattle.dlr_top.specs.declared.run.plain_object.EntryHead.{EntryHead}
 
 -- an object's members, and the entries of the operations on it
 pub record Recorded : Type 0 where

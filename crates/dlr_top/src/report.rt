@@ -1,5 +1,11 @@
+mod entries;
+mod journals;
+mod rendering;
+mod texts;
+
 use dyn_value::{DynText, Entry};
 use program_eval::Ended;
+pub use rendering::render;
 use sqlite_items::Items;
 
 /// How a task ended, what it printed, and the numbers that it drew for new objects.
