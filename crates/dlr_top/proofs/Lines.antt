@@ -7,7 +7,7 @@ use Rattle.std.proofs.lemmas.List.Concat.{flat_map-append}
 use Rattle.std.proofs.lemmas.List.FromFn.{get_or-range_with_len, length-range_with_len}
 use Rattle.std.proofs.lemmas.Result.{on_ok_weaker, on_err_weaker}
 use Rattle.std.proofs.lemmas.Str.{encodes-append}
-use Rattle.object_model.specs.declared.member.Member.{Member}
+use Rattle.object_model.specs.Members.{Member}
 use Rattle.program_eval.specs.Stores.{Begins}
 use Rattle.script_front.specs.declared.tree.Task.{Task}
 use Rattle.dlr_top.specs.declared.report.TaskEnd.{TaskEnd}

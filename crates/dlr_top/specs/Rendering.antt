@@ -10,9 +10,8 @@ use Rattle.dyn_value.specs.declared.value.Value.{Value}
 use Rattle.dyn_value.specs.Texts.{fault_text, quoted, quoted_text}
 use Rattle.standard_binders.specs.declared.binder.Binder.{Binder}
 use Rattle.standard_binders.specs.Binders.{binder_text}
-use Rattle.object_model.specs.declared.member.Member.{Member}
 use Rattle.object_model.specs.Journals.{members_after}
-use Rattle.object_model.specs.Members.{Members}
+use Rattle.object_model.specs.Members.{Member, Members}
 use Rattle.program_eval.specs.declared.ended.Ended.{Ended}
 use Rattle.program_eval.specs.declared.ended.Ended.TheVariants.{Done, Faulted}
 use Rattle.script_front.specs.declared.program.Program.{Program}

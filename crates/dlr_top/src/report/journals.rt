@@ -1,6 +1,6 @@
-ghost use Rattle.std.specs.Prelude.{◌≡◌, [], IfOk, OnOk, OnErr};
+ghost use Rattle.std.specs.Prelude.{◌≡◌, [], IsSome, IfOk, OnOk, OnErr};
 ghost use Rattle.std.specs.List.{flat_map};
-ghost use Rattle.object_model.specs.Journals.{entry_step, members_after};
+ghost use Rattle.object_model.specs.Journals.{IsLegal, entry_step, left_by, members_after};
 ghost use Rattle.program_eval.specs.Stores.{Begins};
 ghost use Rattle.dlr_top.specs.Lawful.{IsLawful, journal_at};
 ghost use Rattle.dlr_top.specs.Rendering.{AddsText, entry_text, journals_text, member_text, members_text, object_count, object_text};
@@ -51,6 +51,7 @@ fn render_object(
     object: u32,
     out: &mut Vec<u8>,
 ) -> Result<(), AllocError>
+    requires { IsLawful program.now report.now }
     ensures appended { OnOk result (AddsText out.old out.new (object_text program.now report.now object)) }
     ensures begins { OnErr result (Begins out.old.items out.new.items) }
 {
@@ -85,12 +86,13 @@ fn render_entries(program: &Program, journal: &[Entry], out: &mut Vec<u8>) -> Re
     Ok(())
 }
 
-/// The members after the entries of a journal.
+/// The members after the entries of a legal journal.
 fn replayed(
     alloc: Global,
     binders: &[Binder],
     journal: &[Entry],
 ) -> Result<ObjectMembers, AllocError>
+    requires { IsLegal binders.now [] journal.now }
     ensures { IfOk result (λ ms. ms ≡ members_after binders.now [] journal.now) }
 {
     let mut members = ObjectMembers::new(alloc);
@@ -100,17 +102,16 @@ fn replayed(
     Ok(members)
 }
 
-/// Makes an entry's operation on the members. An entry whose binder is none changes no member.
+/// Makes an entry's operation on the members.
 fn replay(members: &mut ObjectMembers, binders: &[Binder], entry: &Entry) -> Result<(), AllocError>
-    ensures { OnOk result (members.new ≡ (entry_step binders.now members.old entry.now).members) }
+    requires { IsSome (entry_step binders.now members.old entry.now) }
+    ensures { OnOk result (members.new ≡ left_by members.old (entry_step binders.now members.old entry.now)) }
 {
-    match binders.get(entry.binder as usize) {
-        Some(binder) => {
-            let _outcome = members.step(binder, entry.operands.as_slice())?;
-            Ok(())
-        }
-        None => Ok(()),
-    }
+    let Some(binder) = binders.get(entry.binder as usize) else {
+        unreachable!()
+    };
+    let _outcome = members.step(binder, entry.operands.as_slice())?;
+    Ok(())
 }
 
 /// Appends the members, with a comma after all but the last.

@@ -1,4 +1,6 @@
-ghost use Rattle.std.specs.Prelude.{◌≡◌, ◌++◌, ◌∷◌, [], IfOk, OnErr};
+ghost use Rattle.std.specs.Prelude.{◌≡◌, ◌++◌, ◌∷◌, [], Some, IsSome, IfOk, OnErr};
+ghost use Rattle.object_model.specs.Accesses.{access_of};
+ghost use Rattle.object_model.specs.Journals.{outcome_by};
 ghost use Rattle.object_model.specs.Steps.{object_step};
 ghost use Rattle.dlr_top.specs.Recorded.{Recorded, recorded_step, entry_by};
 
@@ -42,16 +44,17 @@ impl PlainObject {
         }
     }
 
-    /// Makes an operation on the object, with the operands after the target, and adds its entry. Where memory is
-    /// refused, the object stays as it was.
+    /// Makes an operation on the object, with the operands after the target, which suit the binder, and adds its entry.
+    /// Where memory is refused, the object stays as it was.
     pub(crate) fn operate(
         &mut self,
         head: EntryHead,
         binder: &Binder,
         operands: &[Value],
     ) -> Result<Outcome, AllocError>
-        ensures outcome { IfOk result (λ o. o ≡ (object_step self.old.members binder.now operands.now).outcome) }
-        ensures object { IfOk result (λ o. self.new ≡ recorded_step self.old head binder.now operands.now) }
+        requires { IsSome (access_of binder.now operands.now) }
+        ensures outcome { IfOk result (λ o. outcome_by (object_step self.old.members binder.now operands.now) ≡ Some o) }
+        ensures object { IfOk result (λ o. self.new ≡ recorded_step self.old head binder.now operands.now o) }
         ensures refused { OnErr result (self.new ≡ self.old) }
     {
         let entry = Entry {

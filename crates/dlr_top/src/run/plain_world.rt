@@ -10,7 +10,7 @@ use object_model::plain_outcome;
 use program_eval::{Asked, World};
 use script_front::Program;
 use sqlite_items::Items;
-use standard_binders::Binder;
+use standard_binders::{Binder, FunTable};
 use std::alloc::{AllocError, Global};
 use std::sync::Wait;
 
@@ -37,7 +37,7 @@ impl<'a> PlainWorld<'a> {
     ghost use Rattle.dyn_value.specs.Proper.{IsProperIn};
     ghost use Rattle.standard_binders.specs.declared.binder.Binder.{Binder};
     ghost use Rattle.standard_binders.specs.Binders.{operand_count_of};
-    ghost use Rattle.object_model.specs.Steps.{IsAnswerIn};
+    ghost use Rattle.object_model.specs.Plain.{IsAnswerIn};
     ghost use Rattle.program_eval.specs.Worlds.{Answers, AreSame};
     ghost use Rattle.script_front.specs.Programs.{script_of, sites_of};
     ghost use Rattle.script_front.specs.Sites.{site_binders};
@@ -131,7 +131,13 @@ impl<'a> PlainWorld<'a> {
                 };
                 self.objects[object as usize].operate(head, binder, rest)
             }
-            None => plain_outcome(alloc, binder, operands),
+            None => {
+                // no script has functions so far
+                let functions = FunTable {
+                    params: Items::new(alloc),
+                };
+                plain_outcome(alloc, &functions, binder, operands)
+            }
         }
     }
 }

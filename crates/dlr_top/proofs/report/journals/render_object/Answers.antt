@@ -1,13 +1,18 @@
-use Rattle.std.proofs.Common.{◌≡◌, ◌++◌, [], ◌∙◌, ap}
+use Rattle.std.proofs.Common.{◌≡◌, ◌++◌, [], ◌∙◌, ap, sym, subst}
 use Rattle.std.specs.Prelude.{codes, encode_utf8_all}
 use Rattle.std.specs.Fmt.{decimal}
 use Rattle.std.specs.List.{flat_map}
-use Rattle.object_model.specs.Journals.{members_after}
+use Rattle.object_model.specs.Journals.{IsLegal, members_after}
 use Rattle.script_front.specs.Programs.{binders_of}
 use Rattle.dlr_top.specs.Lawful.{journal_at}
 use Rattle.dlr_top.specs.Rendering.{entry_text, members_text}
 use Rattle.dlr_top.proofs.Lines.{both, both_ok, refused_after}
 use Rattle.dlr_top.proofs.report.journals.render_object.Goals as goal
+
+pub replayed-members-requires : goal.replayed-members-requires
+replayed-members-requires c =
+    subst (λ bs. IsLegal bs [] c.journal_of-journal.result.now) (sym c.binders.ensures)
+    (subst (IsLegal (binders_of c.args.program.now) []) (sym c.journal_of-journal.ensures) (c.requires.legal c.args.object))
 
 pub returns-clause-appended : goal.returns-clause-appended
 returns-clause-appended c =

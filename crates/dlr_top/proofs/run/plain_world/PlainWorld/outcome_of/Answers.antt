@@ -5,7 +5,7 @@ use Rattle.object_model.specs.Steps.{OnObject}
 use Rattle.script_front.specs.Programs.{binders_of}
 use Rattle.dlr_top.specs.Lawful.{limit_of}
 use Rattle.dlr_top.specs.Recorded.{IsKept}
-use Rattle.dlr_top.proofs.Worlds.{answered_in, kept_either, kept_set, same_element, target_proper}
+use Rattle.dlr_top.proofs.Worlds.{answered_in, kept_either, kept_set, same_element, target_proper, target_suits}
 use Rattle.dlr_top.proofs.run.plain_world.PlainWorld.outcome_of.Goals as goal
 
 pub invariant_of-self : goal.invariant_of-self
@@ -20,7 +20,7 @@ invariant_of-self c =
       all = length-set world.objects.items c.in-Some.object c.operate.new.self ∙ world.all;
       kept = ∥∥₁_map world.kept (λ kept. kept_set world.program.now world.objects.items c.in-Some.object c.operate.new.self inside kept
           (kept_either world.program.now c.operate.result c.index_mut.result.now c.operate.new.self (record { task = world.task; binder = get_or c.sites.result.now c.args.site 0 })
-          c.binder_of-binder.result.now c.in-Some.rest.now c.operate.ensures.object c.operate.ensures.refused number target.1 (subst (IsKept world.program.now) (sym old) (kept c.in-Some.object))));
+          c.binder_of-binder.result.now c.in-Some.rest.now c.operate.ensures.outcome c.operate.ensures.object c.operate.ensures.refused number target.1 (subst (IsKept world.program.now) (sym old) (kept c.in-Some.object))));
       numbers = world.numbers;
     }
 
@@ -35,3 +35,8 @@ returns-in-Some-clause-answer c =
 
 pub returns-in-None-clause-answer : goal.returns-in-None-clause-answer
 returns-in-None-clause-answer c = c.plain_outcome.ensures.answer 0 (limit_of c.args.self.now.program.now) c.requires.proper
+
+pub operate-requires : goal.operate-requires
+operate-requires c =
+    target_suits c.binder_of-binder.result.now c.args.operands.now (record { object = c.in-Some.object; operands = c.in-Some.rest.now }) c.in-Some.ensures
+    (c.requires.count c.binder_of-binder.result.now c.binder_of-binder.ensures.binder)
