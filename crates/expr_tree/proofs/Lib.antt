@@ -1,4 +1,5 @@
 pub mod Appending
 pub mod Meaning
 pub mod Orders
+pub mod Plain
 mod WorkedMeanings

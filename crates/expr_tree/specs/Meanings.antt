@@ -1,19 +1,16 @@
 -- What trees mean. As a test a tree is true or false; as a body it gives an outcome and a new state.
-use Rattle.std.specs.Prelude.{ℕ, ◌-◌, ◌==◌, ◌&&◌, Bool, true, false, IsTrue, List, [], ◌∷◌, ◌++◌, Option, Some, None, Result, Ok, Err, pos, length, nat_lt, slice_get, slice_set, remove, unwrap_or, option_map, ok_or, encode_utf8_all}
+use Rattle.std.specs.Prelude.{ℕ, ◌-◌, ◌==◌, ◌&&◌, Bool, true, false, IsTrue, List, [], ◌∷◌, ◌++◌, Option, Some, None, length, nat_lt, slice_get, slice_set, remove, unwrap_or, encode_utf8_all}
 use Rattle.std.specs.List.{list_all}
 use Rattle.std.specs.Str.{bytes_eq}
-use Rattle.dyn_value.specs.declared.value.Kind.{Kind}
-use Rattle.dyn_value.specs.declared.value.Kind.TheVariants as kind
 use Rattle.dyn_value.specs.declared.value.Value.{Value}
 use Rattle.dyn_value.specs.declared.value.Value.TheVariants as value
-use Rattle.dyn_value.specs.declared.fault.Fault.{Fault}
 use Rattle.dyn_value.specs.declared.fault.Fault.TheVariants as fault
 use Rattle.dyn_value.specs.declared.outcome.Outcome.{Outcome}
 use Rattle.dyn_value.specs.declared.outcome.Outcome.TheVariants as outcome
 use Rattle.dyn_value.specs.Conversions.{convert_of}
-use Rattle.dyn_value.specs.Kinds.{kind_of}
-use Rattle.dyn_value.specs.Operations.{unary_of, binary_of}
-use Rattle.dyn_value.specs.Texts.{character_at}
+use Rattle.dyn_value.specs.Kinds.{kind_of, same_kind}
+use Rattle.dyn_value.specs.Operations.{unary_of, binary_of, length_of, char_of}
+use Rattle.dyn_value.specs.Outcomes.{at, outcome_of}
 use Rattle.expr_tree.specs.declared.node.Node.{Node}
 use Rattle.expr_tree.specs.declared.node.Node.TheVariants.{Param, Const, IsKind, IsFun, IsKey, LongKey, IsClass, Both, Unary, Binary, Convert, Length, CharAt, Read, Write, Append, Remove, Call, Make, Throw}
 use Rattle.expr_tree.specs.InOrder.{in_order}
@@ -24,16 +21,6 @@ pub record State : Type 0 where
   pub class : ℕ
   pub names : List (List ℕ)
   pub values : List Value
-
--- whether two kinds are the same
-abbrev pub same_kind : Kind → Kind → Bool
-same_kind kind.Nil kind.Nil = true
-same_kind kind.Bool kind.Bool = true
-same_kind kind.Int kind.Int = true
-same_kind kind.Text kind.Text = true
-same_kind kind.Fun kind.Fun = true
-same_kind kind.Obj kind.Obj = true
-same_kind _ _ = false
 
 -- whether a value is the function of this number
 abbrev pub is_fun : ℕ → Value → Bool
@@ -74,26 +61,6 @@ tests ops class = in_order (node_test ops class)
 abbrev pub passes : List Node → List Value → ℕ → Bool
 passes nodes ops class = unwrap_or (slice_get (tests ops class [] nodes) (length nodes - 1)) false
 
--- the value at a place or of an operand
-abbrev pub at : List Value → ℕ → Value
-at values i = unwrap_or (slice_get values i) value.Nil
-
--- the number of characters of a text
-abbrev pub length_of : Value → Result Value Fault
-length_of (value.Text t) = Ok (value.Int (pos (length t)))
-length_of _ = Err fault.NoOperator
-
--- the character of a text at a place counted from 0
-abbrev pub char_of : Value → Value → Result Value Fault
-char_of (value.Text t) (value.Int i) = ok_or (option_map value.Text (character_at t i)) fault.NoIndex
-char_of (value.Text t) _ = Err fault.NoIndex
-char_of _ _ = Err fault.NoOperator
-
--- the outcome that is a value or a fault
-abbrev pub outcome_of : Result Value Fault → Outcome
-outcome_of (Ok v) = outcome.Value v
-outcome_of (Err f) = outcome.Fault f
-
 -- what a body with this root answers, of operands and a state; the other nodes are the root of no body
 abbrev pub answer_in : List Value → State → Node → Outcome
 answer_in ops s (Param a) = outcome.Value (at ops a)
@@ -122,3 +89,11 @@ state_after ops names s _ = s
 -- the operands and places that a node names are there
 abbrev pub IsThere : List Value → List Value → Node → Type 0
 IsThere ops values n = IsTrue (list_all (λ a. nat_lt a (length ops)) (operands_of n) && list_all (λ p. nat_lt p (length values)) (places_of n))
+
+-- whether a node neither reads nor changes an object's members
+abbrev pub is_plain : Node → Bool
+is_plain (Read p) = false
+is_plain (Write p a) = false
+is_plain (Append c a) = false
+is_plain (Remove p c) = false
+is_plain _ = true

@@ -1,8 +1,10 @@
-//! What trees print, which nodes make a tree, and which trees make a body; expected values are worked out by hand.
+//! What trees print, which nodes make a tree, which trees make a body, and that both may be shared by threads; expected
+//! values are worked out by hand.
 use crate::{Body, Node, Tree, TreeRefused};
 use dyn_value::{BinOp, DynText, Fault, Kind, UnOp, Value};
 use std::alloc::Global;
 use std::test::Fail;
+use std::thread;
 
 fn text(alloc: Global, characters: &str) -> Result<DynText, Fail> {
     Ok(DynText::from_str(alloc, characters)?.ok_or("too long")?)
@@ -211,5 +213,24 @@ fn a_text_is_appended(rt: HostRuntime) -> Result<(), Fail> {
     let mut out = vec![in alloc; b'>']?;
     body.tree().print_to(&mut out)?;
     assert!(rt; out.as_slice() == ">(call 3)".as_bytes());
+    Ok(())
+}
+
+/// A tree and a body are read by two threads at once, and each moves into one.
+#[test]
+fn trees_between_threads(rt: HostRuntime) -> Result<(), Fail> {
+    let alloc = rt.alloc();
+    let test = tree(vec![in alloc; Node::IsKey(1, text(alloc, "k")?)]?)?;
+    let answer = Body::single(alloc, Node::Throw(Fault::NoMember(text(alloc, "k")?)))?;
+    let (one, other) = thread::join(
+        &rt,
+        || test.nodes().len() + answer.tree().nodes().len(),
+        || test.nodes().len() + answer.tree().nodes().len(),
+    );
+    assert_eq!(rt; (one, other), (2, 2));
+    let (moved, _) = thread::join(&rt, move || test.nodes().len(), || ());
+    assert_eq!(rt; moved, 1);
+    let (moved, _) = thread::join(&rt, move || answer.tree().nodes().len(), || ());
+    assert_eq!(rt; moved, 1);
     Ok(())
 }

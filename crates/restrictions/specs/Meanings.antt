@@ -2,8 +2,8 @@
 use Rattle.std.specs.Prelude.{ℕ, ◌==◌, Bool, List, slice_get}
 use Rattle.std.specs.List.{list_all}
 use Rattle.dyn_value.specs.declared.value.Value.{Value}
-use Rattle.dyn_value.specs.Kinds.{kind_of}
-use Rattle.expr_tree.specs.Meanings.{same_kind, is_fun, is_text, is_long, passes_there}
+use Rattle.dyn_value.specs.Kinds.{kind_of, same_kind}
+use Rattle.expr_tree.specs.Meanings.{is_fun, is_text, is_long, passes_there}
 use Rattle.restrictions.specs.declared.restriction.Restriction.{Restriction}
 use Rattle.restrictions.specs.declared.restriction.Restriction.TheVariants.{Kind, Fun, Key, LongKey, Class}
 

@@ -1,8 +1,8 @@
 -- Lists of distinct restrictions.
-use Rattle.std.specs.Prelude.{◌==◌, ◌≤◌, ◌&&◌, Bool, true, false, not, IsTrue, List, [], ◌∷◌, ◌++◌, length, nat_le}
-use Rattle.std.specs.List.{list_all, list_any, filter}
+use Rattle.std.specs.Prelude.{◌==◌, ◌≤◌, ◌&&◌, Bool, true, false, not, IsTrue, List, ◌++◌, length, nat_le}
+use Rattle.std.specs.List.{IsDistinct, list_all, list_any, filter}
 use Rattle.std.specs.Str.{bytes_eq}
-use Rattle.expr_tree.specs.Meanings.{same_kind}
+use Rattle.dyn_value.specs.Kinds.{same_kind}
 use Rattle.restrictions.specs.declared.restriction.Restriction.{Restriction}
 use Rattle.restrictions.specs.declared.restriction.Restriction.TheVariants.{Kind, Fun, Key, LongKey, Class}
 
@@ -18,11 +18,6 @@ is_same _ _ = false
 -- whether a restriction stands in a list
 abbrev pub is_in : Restriction → List Restriction → Bool
 is_in r rs = list_any (λ x. is_same x r) rs
-
--- whether no restriction stands in a list twice
-abbrev pub are_distinct : List Restriction → Bool
-are_distinct [] = true
-are_distinct (r ∷ rs) = not (list_any (is_same r) rs) && are_distinct rs
 
 -- whether the operand that a restriction looks at is at most 16
 abbrev pub operand_fits : Restriction → Bool
@@ -46,7 +41,7 @@ is_expression _ = false
 -- at most 16 distinct restrictions
 pub record IsSet (rs : List Restriction) : Type 0 where
   pub few : length rs ≤ 16
-  pub distinct : IsTrue (are_distinct rs)
+  pub distinct : IsDistinct is_same rs
   pub operands : IsTrue (list_all operand_fits rs)
 
 -- the first list, followed by those of the second that are not in it

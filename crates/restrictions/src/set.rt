@@ -1,5 +1,5 @@
 //! Sets of restrictions, and their makers.
-ghost use Rattle.std.specs.Prelude.{◌≡◌, ◌≤◌, [], ◌∷◌, IsTrue, IfOk};
+ghost use Rattle.std.specs.Prelude.{◌≡◌, ◌<◌, ◌≤◌, [], ◌∷◌, ◌++◌, false, length, IsTrue, IfOk};
 ghost use Rattle.dyn_value.specs.declared.value.Kind.{Kind};
 ghost use Rattle.restrictions.specs.Sets.{IsSet, is_in, is_instance, is_expression, operand_fits};
 
@@ -46,7 +46,7 @@ impl Restrictions {
         requires { operand ≤ 16 }
         ensures { IfOk result (λ rs. rs ≡ Restriction.Kind operand kind ∷ []) }
     {
-        Restrictions::single(alloc, Restriction::Kind(operand, kind))
+        Restrictions::empty(alloc).and(Restriction::Kind(operand, kind))
     }
 
     /// The one restriction of an instance: that the operand is a function or a text. The one error is want of memory.
@@ -55,7 +55,7 @@ impl Restrictions {
         requires operand { IsTrue (operand_fits restriction) }
         ensures { IfOk result (λ rs. rs ≡ restriction ∷ []) }
     {
-        Restrictions::single(alloc, restriction)
+        Restrictions::empty(alloc).and(restriction)
     }
 
     /// The one restriction of an expression: that the operand is a long text, or that the class has a number. The
@@ -65,16 +65,19 @@ impl Restrictions {
         requires operand { IsTrue (operand_fits restriction) }
         ensures { IfOk result (λ rs. rs ≡ restriction ∷ []) }
     {
-        Restrictions::single(alloc, restriction)
+        Restrictions::empty(alloc).and(restriction)
     }
 
-    fn single(alloc: Global, restriction: Restriction) -> Result<Restrictions, AllocError>
-        requires { IsTrue (operand_fits restriction) }
-        ensures { IfOk result (λ rs. rs ≡ restriction ∷ []) }
+    /// These restrictions, fewer than [`Restrictions::MOST`], and after them one that is not among them. The one error
+    /// is want of memory.
+    pub fn and(mut self, restriction: Restriction) -> Result<Restrictions, AllocError>
+        requires room { length self < 16 }
+        requires new { is_in restriction self ≡ false }
+        requires operand { IsTrue (operand_fits restriction) }
+        ensures { IfOk result (λ rs. rs ≡ self ++ restriction ∷ []) }
     {
-        let mut items = Vec::new(alloc);
-        items.push(restriction)?;
-        Ok(Restrictions { items })
+        self.items.push(restriction)?;
+        Ok(self)
     }
 
     /// The restrictions, in the order in which they came.

@@ -1,11 +1,19 @@
+//! The trees of sets, what a merge refuses, and that sets may be shared by threads.
+ghost use Rattle.std.specs.Prelude.{◌≡◌, ◌∷◌, [], IfOk};
+
 use crate::{MergeRefused, Restriction, Restrictions};
 use dyn_value::{DynText, Kind};
-use std::alloc::Global;
+use std::alloc::{AllocError, Global};
 use std::test::Fail;
+use std::thread;
+
+fn text(alloc: Global, characters: &str) -> Result<DynText, Fail> {
+    Ok(DynText::from_str(alloc, characters)?.ok_or("too long")?)
+}
 
 /// One restriction of each form.
 fn one_of_each(alloc: Global) -> Result<Restrictions, Fail> {
-    let text = DynText::from_str(alloc, "k")?.ok_or("too long")?;
+    let text = text(alloc, "k")?;
     let mut all = Restrictions::kind(alloc, 0, Kind::Int)?;
     let others = [
         Restrictions::instance(alloc, Restriction::Fun(0, 2))?,
@@ -41,6 +49,70 @@ fn printed(alloc: Global, restrictions: &Restrictions) -> Result<Vec<u8>, Fail> 
     let mut out = Vec::new(alloc);
     restrictions.to_tree(alloc)?.print_to(&mut out)?;
     Ok(out)
+}
+
+/// The kinds of the target and of the first argument.
+fn two_kinds(alloc: Global, target: Kind, argument: Kind) -> Result<Restrictions, AllocError>
+    ensures { IfOk result (λ rs. rs ≡ Restriction.Kind 0 target ∷ Restriction.Kind 1 argument ∷ []) }
+{
+    Restrictions::kind(alloc, 0, target)?.and(Restriction::Kind(1, argument))
+}
+
+/// The kind of the target, the class, and the text that is the first argument.
+fn kind_class_and_key(
+    alloc: Global,
+    target: Kind,
+    class: u128,
+    key: DynText,
+) -> Result<Restrictions, AllocError>
+    ensures { IfOk result (λ rs.
+        rs ≡ Restriction.Kind 0 target ∷ Restriction.Class class ∷ Restriction.Key 1 key ∷ []) }
+{
+    Restrictions::kind(alloc, 0, target)?
+        .and(Restriction::Class(class))?
+        .and(Restriction::Key(1, key))
+}
+
+#[test]
+fn trees_of_two_and_three(rt: HostRuntime) -> Result<(), Fail> {
+    let alloc = rt.alloc();
+    let sets = [
+        (
+            two_kinds(alloc, Kind::Int, Kind::Text)?,
+            "(and (kind 0 Int) (kind 1 Text))",
+        ),
+        (
+            Restrictions::kind(alloc, 0, Kind::Obj)?.and(Restriction::Class(4))?,
+            "(and (kind 0 Obj) (class 4))",
+        ),
+        (
+            Restrictions::kind(alloc, 0, Kind::Obj)?.and(Restriction::LongKey(1))?,
+            "(and (kind 0 Obj) (long 1))",
+        ),
+        (
+            Restrictions::kind(alloc, 0, Kind::Fun)?.and(Restriction::Fun(0, 2))?,
+            "(and (kind 0 Fun) (fun 0 2))",
+        ),
+        (
+            kind_class_and_key(alloc, Kind::Obj, 4, text(alloc, "k")?)?,
+            "(and (and (kind 0 Obj) (class 4)) (key 1 \"k\"))",
+        ),
+    ];
+    for (restrictions, want) in sets {
+        assert!(rt; printed(alloc, &restrictions)?.as_slice() == want.as_bytes());
+    }
+    Ok(())
+}
+
+/// A set is read by two threads at once, and moves into one.
+#[test]
+fn sets_between_threads(rt: HostRuntime) -> Result<(), Fail> {
+    let all = one_of_each(rt.alloc())?;
+    let (one, other) = thread::join(&rt, || all.items().len(), || all.items().len());
+    assert_eq!(rt; (one, other), (5, 5));
+    let (moved, _) = thread::join(&rt, move || all.items().len(), || ());
+    assert_eq!(rt; moved, 5);
+    Ok(())
 }
 
 #[test]

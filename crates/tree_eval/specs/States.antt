@@ -2,9 +2,10 @@
 use Rattle.std.specs.Prelude.{◌≡◌, ◌≤◌, ℕ, List, [], ◌∷◌, ◌++◌, Option, Some, None, ⊤, IsSomeAnd, remove}
 use Rattle.dyn_value.specs.declared.value.Value.{Value}
 use Rattle.dyn_value.specs.declared.outcome.Outcome.{Outcome}
+use Rattle.dyn_value.specs.Outcomes.{at}
 use Rattle.expr_tree.specs.declared.node.Node.{Node}
 use Rattle.expr_tree.specs.declared.node.Node.TheVariants.{Write, Append, Remove}
-use Rattle.expr_tree.specs.Meanings.{State, at, answer_in, IsThere}
+use Rattle.expr_tree.specs.Meanings.{State, answer_in, IsThere}
 use Rattle.expando_class.specs.declared.class.ClassRef.{ClassRef}
 use Rattle.expando_class.specs.Class.{number_of, names_of}
 use Rattle.expando_object.specs.declared.state.ObjState.{ObjState}

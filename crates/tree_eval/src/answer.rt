@@ -1,8 +1,8 @@
 //! What the nodes that touch no member answer.
 ghost use Rattle.std.specs.Prelude.{◌≡◌, ◌<◌, [], IsTrue, IfOk, length};
-ghost use Rattle.expr_tree.specs.Meanings as spec;
-ghost use Rattle.expr_tree.specs.Meanings.{State, answer_in, char_of, length_of, outcome_of, IsThere};
-ghost use Rattle.tree_eval.specs.Plain.{is_plain};
+ghost use Rattle.dyn_value.specs.Operations.{char_of, length_of};
+ghost use Rattle.dyn_value.specs.Outcomes.{at};
+ghost use Rattle.expr_tree.specs.Meanings.{State, answer_in, is_plain, IsThere};
 
 use dyn_value::{Fault, Outcome, Value, binary, convert, unary};
 use expr_tree::Node;
@@ -17,18 +17,21 @@ pub(crate) fn answer(alloc: Global, node: &Node, operands: &[Value]) -> Result<O
     Ok(match node {
         Node::Param(number) => Outcome::Value(copy_of(operands, *number)?),
         Node::Const(value) => Outcome::Value(value.copy()?),
-        Node::Unary(op, number) => outcome(unary(*op, operand(operands, *number))),
+        Node::Unary(op, number) => Outcome::of(unary(*op, operand(operands, *number))),
         Node::Binary(op, left, right) => {
             let left = operand(operands, *left);
             let right = operand(operands, *right);
-            outcome(binary(alloc, *op, left, right)?)
+            Outcome::of(binary(alloc, *op, left, right)?)
         }
-        Node::Convert(kind, number) => outcome(convert(alloc, operand(operands, *number), *kind)?),
-        Node::Length(number) => outcome(length_of_text(operand(operands, *number))),
+        Node::Convert(kind, number) => {
+            let value = operand(operands, *number);
+            Outcome::of(convert(alloc, value, *kind)?)
+        }
+        Node::Length(number) => Outcome::of(length_of_text(operand(operands, *number))),
         Node::CharAt(text, place) => {
             let text = operand(operands, *text);
             let place = operand(operands, *place);
-            outcome(char_of_text(alloc, text, place)?)
+            Outcome::of(char_of_text(alloc, text, place)?)
         }
         Node::Call(function) => Outcome::Call(*function),
         Node::Make(function) => Outcome::Make(*function),
@@ -40,7 +43,7 @@ pub(crate) fn answer(alloc: Global, node: &Node, operands: &[Value]) -> Result<O
 /// A copy of the operand of that number.
 pub(crate) fn copy_of(operands: &[Value], number: u8) -> Result<Value, AllocError>
     requires { number < length operands.now }
-    ensures { IfOk result (λ v. v ≡ spec.at operands.now number) }
+    ensures { IfOk result (λ v. v ≡ at operands.now number) }
 {
     operand(operands, number).copy()
 }
@@ -48,19 +51,9 @@ pub(crate) fn copy_of(operands: &[Value], number: u8) -> Result<Value, AllocErro
 /// The operand of that number.
 fn operand(operands: &[Value], number: u8) -> &Value
     requires { number < length operands.now }
-    ensures { result.now ≡ spec.at operands.now number }
+    ensures { result.now ≡ at operands.now number }
 {
     &operands[number as usize]
-}
-
-/// The outcome that is a value or a fault.
-fn outcome(answer: Result<Value, Fault>) -> Outcome
-    ensures { result ≡ outcome_of answer }
-{
-    match answer {
-        Ok(value) => Outcome::Value(value),
-        Err(fault) => Outcome::Fault(fault),
-    }
 }
 
 /// The number of characters of a text; `NoOperator` for another value.

@@ -1,8 +1,7 @@
 //! Bodies that touch no member of an object.
 ghost use Rattle.std.specs.Prelude.{◌≡◌, [], IsTrue, IfOk};
-ghost use Rattle.expr_tree.specs.Meanings.{State, answer_in, IsThere};
+ghost use Rattle.expr_tree.specs.Meanings.{State, answer_in, is_plain, IsThere};
 ghost use Rattle.expr_tree.specs.Trees.{root};
-ghost use Rattle.tree_eval.specs.Plain.{is_plain};
 
 use crate::answer::answer;
 use dyn_value::{Outcome, Value};

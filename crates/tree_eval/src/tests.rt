@@ -1,7 +1,6 @@
 ghost use Rattle.std.specs.Prelude.{[], IsTrue};
-ghost use Rattle.expr_tree.specs.Meanings.{IsThere};
+ghost use Rattle.expr_tree.specs.Meanings.{is_plain, IsThere};
 ghost use Rattle.expr_tree.specs.Trees.{answers, fits};
-ghost use Rattle.tree_eval.specs.Plain.{is_plain};
 
 mod prepared;
 

@@ -1,9 +1,9 @@
 //! Trees as tests.
 ghost use Rattle.std.specs.Prelude.{◌≡◌, ℕ, unwrap_or, slice_get, false};
 ghost use Rattle.std.specs.Option.{option_copied};
-ghost use Rattle.dyn_value.specs.Kinds.{kind_of};
+ghost use Rattle.dyn_value.specs.Kinds.{kind_of, same_kind};
 ghost use Rattle.expr_tree.specs.Meanings as spec;
-ghost use Rattle.expr_tree.specs.Meanings.{passes, passes_there, node_test, same_kind};
+ghost use Rattle.expr_tree.specs.Meanings.{passes, passes_there, node_test};
 
 use dyn_value::{DynText, Kind, Value};
 use expr_tree::{Node, Tree};

@@ -8,13 +8,14 @@ ghost use Rattle.tree_eval.specs.States.{IsClassAfter};
 
 use super::printed;
 use crate::{Prepared, eval};
-use dyn_value::{BinOp, Fault, Kind, UnOp, Value};
+use dyn_value::{BinOp, Fault, Kind, Outcome, UnOp, Value};
 use expando_class::{ClassRef, ClassTable};
 use expando_object::ObjState;
 use expr_tree::{Body, Node};
 use std::alloc::Global;
 use std::sync::Wait;
 use std::test::Fail;
+use std::thread;
 
 /// What the body of this node answers of the one operand; the state is then the one after it.
 fn answered(
@@ -132,5 +133,26 @@ fn members_come_and_go(rt: HostRuntime) -> Result<(), Fail> {
     assert_eq!(rt; table.size(state.class()), 1);
     assert_eq!(rt; table.name_at(state.class(), 0), "y");
     assert!(rt; answered(alloc, Node::Read(0), 0, &mut state, None)?.as_slice() == b"2".as_slice());
+    Ok(())
+}
+
+/// What was prepared and the state are read by two threads at once, and move into one, which writes.
+#[test]
+fn bodies_between_threads(rt: HostRuntime) -> Result<(), Fail> {
+    let alloc = rt.alloc();
+    let mut state = of_two(alloc, &rt)?;
+    let _class = state.class();
+    let body = Body::single(alloc, Node::Write(0, 0))?;
+    let operands = [Value::Int(7)];
+    let prepared = Prepared::make(alloc, &body, operands.as_slice(), &mut state)?;
+    let nil = Outcome::Value(Value::Nil);
+    let (one, other) = thread::join(
+        &rt,
+        || prepared.outcome().same(&nil) && state.class().number() == 2,
+        || prepared.outcome().same(&nil) && state.class().number() == 2,
+    );
+    assert!(rt; one && other);
+    let (answer, _) = thread::join(&rt, move || eval(&body, prepared, &mut state, None), || ());
+    assert!(rt; answer.same(&nil));
     Ok(())
 }

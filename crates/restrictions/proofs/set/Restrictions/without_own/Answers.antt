@@ -1,7 +1,7 @@
 use Rattle.std.proofs.Common.{not, rules}
+use Rattle.std.proofs.lemmas.Fn.{filter_same}
 use Rattle.restrictions.specs.Sets.{is_in}
-use Rattle.restrictions.proofs.Merged.{retained}
 use Rattle.restrictions.proofs.set.Restrictions.without_own.Goals as goal
 
 pub returns : goal.returns
-returns c = retained _ (λ r. not (is_in r c.args.self.now)) _ (λ x b q k. (search (rules, k), search (rules, k))) _ _ c.retain.ensures.filtered
+returns c = filter_same _ (λ r. not (is_in r c.args.self.now)) _ (λ x b q k. (search (rules, k), search (rules, k))) _ _ c.retain.ensures.filtered
