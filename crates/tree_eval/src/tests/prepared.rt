@@ -51,6 +51,9 @@ fn of_two(alloc: Global, rt: &impl Wait) -> Result<ObjState, Fail>
     let mut pass = table.pass(alloc)?;
     let root = table.root();
     let x = table.add(rt, &mut pass, &root, "x")?;
+    let None = table.place_of(&x, "y") else {
+        return Err("the class has the name already".into());
+    };
     let xy = table.add(rt, &mut pass, &x, "y")?;
     let mut state = ObjState::new(alloc, root);
     state.reserve()?;
@@ -118,6 +121,9 @@ fn members_come_and_go(rt: HostRuntime) -> Result<(), Fail> {
     let mut pass = table.pass(alloc)?;
     let root = table.root();
     let x = table.add(&rt, &mut pass, &root, "x")?;
+    let None = table.place_of(&x, "y") else {
+        return Err("the class has the name already".into());
+    };
     let xy = table.add(&rt, &mut pass, &x, "y")?;
     let y = table.remove(&rt, &mut pass, &xy, 0)?;
     let mut state = ObjState::new(alloc, root);
