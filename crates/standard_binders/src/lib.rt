@@ -5,6 +5,8 @@
 mod binder;
 mod call_info;
 mod fun_table;
+#[cfg(test)]
+mod tests;
 
 pub use binder::Binder;
 pub use call_info::CallInfo;

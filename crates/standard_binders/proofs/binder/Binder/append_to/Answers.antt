@@ -1,8 +1,7 @@
-use Rattle.std.proofs.Common.{◌≡◌, ◌++◌, ◌∷◌, [], refl, ap, sym, ◌∙◌, subst, append_assoc, codes}
-use Rattle.std.specs.Prelude.{encode_utf8_all, OnOk}
+use Rattle.std.proofs.Common.{◌≡◌, ◌++◌, ◌∷◌, [], refl, codes}
+use Rattle.std.specs.Prelude.{encode_utf8_all}
 use Rattle.dyn_value.specs.Texts.{quoted_text}
 use Rattle.standard_binders.specs.Arguments.{arguments_text}
-use Rattle.standard_binders.specs.Binders.{binder_text}
 use Rattle.standard_binders.proofs.Appended.{joined, joined_ok, labelled}
 use Rattle.standard_binders.proofs.binder.Binder.append_to.Goals as goal
 
