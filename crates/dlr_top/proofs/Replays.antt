@@ -28,7 +28,7 @@ replayed_whole binders start after es i h e = e ∙ ap (members_after binders st
 
 stepped : (step : Option Step) (o : Outcome) → outcome_by step ≡ Some o → IsSome step
 stepped None o is = cc
-stepped (Some s) o is = tt
+stepped (Some s) o is = refl
 
 -- each entry of a legal journal is an operation on the members after those before it
 pub replayed_step : (binders : List Binder) (start before : Members) (es : List Entry) (i : ℕ) (e : Entry) → IsLegal binders start es → i < length es → e ≡ get_or es i e
@@ -45,12 +45,13 @@ replayed_step binders start before es i e legal h is e1 =
 
 accessed : (access : Option Access) (ms : Members) → IsSome (option_map (λ a. step_by a ms) access) → IsSome access
 accessed None ms there = there
-accessed (Some a) ms there = tt
+accessed (Some a) ms there = refl
 
 -- the binder of such an entry is there, and its operands suit it
 pub replayed_binder : (binders : List Binder) (ms : Members) (number : ℕ) (operands : List Value) → slice_get binders number ≡ None
     → IsSome (option_and_then (λ b. object_step ms b operands) (slice_get binders number)) → ⊥
-replayed_binder binders ms number operands none there = subst (λ (o : Option Binder). IsSome (option_and_then (λ b. object_step ms b operands) o)) none there
+replayed_binder binders ms number operands none there =
+    let no : IsSome {T = Step} None = subst (λ (o : Option Binder). IsSome (option_and_then (λ b. object_step ms b operands) o)) none there in cc
 
 pub replayed_access : (binders : List Binder) (ms : Members) (number : ℕ) (operands : List Value) (b : Binder) → slice_get binders number ≡ Some b
     → IsSome (option_and_then (λ b. object_step ms b operands) (slice_get binders number)) → IsSome (access_of b operands)

@@ -9,8 +9,8 @@ use Rattle.dlr_top.specs.Rendering.{entry_text, members_text}
 use Rattle.dlr_top.proofs.Lines.{both, both_ok, refused_after}
 use Rattle.dlr_top.proofs.report.journals.render_object.Goals as goal
 
-pub replayed-members-requires : goal.replayed-members-requires
-replayed-members-requires c =
+pub replayed-requires : goal.replayed-requires
+replayed-requires c =
     subst (λ bs. IsLegal bs [] c.journal_of-journal.result.now) (sym c.binders.ensures)
     (subst (IsLegal (binders_of c.args.program.now) []) (sym c.journal_of-journal.ensures) (c.requires.legal c.args.object))
 

@@ -1,6 +1,10 @@
-use Rattle.std.proofs.Common.{◌≡◌, ◌∙◌, ◌<◌, length, Some, get_or, slice_get, sym, subst}
+use Rattle.std.proofs.Common.{◌≡◌, ◌∙◌, ◌<◌, ℕ, ap, length, Some, get_or, slice_get, sym, subst}
 use Rattle.std.proofs.Math.Logic.{∥∥₁_map}
 use Rattle.std.proofs.lemmas.List.{length-set}
+use Rattle.std.specs.List.{AllByRecursion}
+use Rattle.std.specs.Prelude.{IfOk}
+use Rattle.dyn_value.specs.Proper.{IsProperIn}
+use Rattle.object_model.specs.Plain.{IsAnswerIn}
 use Rattle.object_model.specs.Steps.{OnObject}
 use Rattle.script_front.specs.Programs.{binders_of}
 use Rattle.dlr_top.specs.Lawful.{limit_of}
@@ -34,7 +38,11 @@ returns-in-Some-clause-answer c =
     answered_in world.program.now world.objects.items c.in-Some.object c.operate.result c.index_mut.result.now c.binder_of-binder.result.now c.in-Some.rest.now world.kept old c.operate.ensures.outcome
 
 pub returns-in-None-clause-answer : goal.returns-in-None-clause-answer
-returns-in-None-clause-answer c = c.plain_outcome.ensures.answer 0 (limit_of c.args.self.now.program.now) c.requires.proper
+returns-in-None-clause-answer c =
+    let limit = limit_of c.args.self.now.program.now in
+    let none : length c.new.result ≡ 0 = ap length c.new.ensures in
+    let answer : AllByRecursion (IsProperIn (length c.new.result) limit) c.args.operands.now → IfOk c.plain_outcome.result (IsAnswerIn (length c.new.result) limit) = c.plain_outcome.ensures.answer limit in
+    subst (λ (n : ℕ). AllByRecursion (IsProperIn n limit) c.args.operands.now → IfOk c.plain_outcome.result (IsAnswerIn n limit)) none answer c.requires.proper
 
 pub operate-requires : goal.operate-requires
 operate-requires c =
