@@ -7,8 +7,7 @@ use Rattle.std.proofs.lemmas.List.Quantifiers.{position-Some}
 use Rattle.std.proofs.lemmas.List.Sums.{fails_before_first}
 use Rattle.std.proofs.lemmas.Slice.Eq.{bytes_eq-Decides}
 use Rattle.dyn_value.specs.declared.value.Value.{Value}
-use Rattle.object_model.specs.declared.member.Member.{Member}
-use Rattle.object_model.specs.Members.{Members, value_of, replaced, removed}
+use Rattle.object_model.specs.Members.{Member, Members, value_of, replaced, removed}
 
 -- whether a member has this name
 abbrev pub has_name : List ℕ → Member → Bool

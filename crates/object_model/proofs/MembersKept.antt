@@ -1,24 +1,24 @@
 -- Members stay members: distinct names, and 64 at most.
-use Rattle.std.proofs.Common.{◌≡◌, ℕ, suc, ◌≤◌, ◌<◌, Bool, true, false, not, ◌||◌, List, [], ◌∷◌, ◌++◌, length, map, Option, None, Some, refl, ◌∙◌, ap, arith, nat_eq}
-use Rattle.std.specs.List.{list_any}
+use Rattle.std.proofs.Common.{◌≡◌, ℕ, suc, ◌≤◌, ◌<◌, Bool, true, false, List, [], ◌∷◌, ◌++◌, length, map, Option, None, Some, refl, sym, ap, subst, arith, nat_eq}
+use Rattle.std.specs.List.{AllByRecursion, IsDistinct}
+use Rattle.std.specs.Option.{option_map}
 use Rattle.std.specs.Str.{bytes_eq}
-use Rattle.std.proofs.lemmas.Bool.{and_parts, and_from}
 use Rattle.std.proofs.lemmas.Bool.Decides.{nat_tests}
 use Rattle.std.proofs.lemmas.List.{length-append}
+use Rattle.std.proofs.lemmas.Map.Keys.{IsDistinct-head, IsDistinct-tail, IsDistinct-cons}
 use Rattle.dyn_value.specs.declared.value.Value.{Value}
-use Rattle.dyn_value.specs.Texts.{are_distinct}
 use Rattle.standard_binders.specs.declared.binder.Binder.{Binder}
-use Rattle.standard_binders.specs.declared.binder.Binder.TheVariants.{GetMember, SetMember, DeleteMember}
-use Rattle.object_model.specs.declared.member.Member.{Member}
-use Rattle.object_model.specs.Members.{Members, member_name, value_of, replaced, removed, AreMembers}
-use Rattle.object_model.specs.Steps.{read_member, write_member, delete_member, object_step}
+use Rattle.object_model.specs.Accesses.{Access, Reads, Writes, Deletes, NoKey, access_of}
+use Rattle.object_model.specs.Journals.{left_by}
+use Rattle.object_model.specs.Members.{Member, Members, member_name, value_of, replaced, removed, AreMembers}
+use Rattle.object_model.specs.Steps.{read_member, write_member, delete_member, step_by, object_step}
 
 abbrev names : Members → List (List ℕ)
 names ms = map member_name ms
 
--- whether a text stands among the names
-abbrev is_among : List ℕ → Members → Bool
-is_among t ms = list_any (bytes_eq t) (names ms)
+-- no member has this name
+abbrev IsNew : List ℕ → Members → Type 0
+IsNew name ms = AllByRecursion (λ n. bytes_eq name n ≡ false) (names ms)
 
 names_replaced : (name : List ℕ) (v : Value) (ms : Members) → names (replaced name v ms) ≡ names ms
 names_replaced name v [] = refl
@@ -44,41 +44,22 @@ length_removed name (m ∷ ms) = by_test (bytes_eq m.name name) refl (length_rem
     by_test true e rest = rw e (omega arith)
     by_test false e rest = rw e (omega arith)
 
-either_false : (a b : Bool) → (a || b) ≡ false → (a ≡ false) × (b ≡ false)
-either_false true b e = cc
-either_false false b e = (refl, e)
-
-both_false : (a b : Bool) → a ≡ false → b ≡ false → (a || b) ≡ false
-both_false true b e f = cc
-both_false false b e f = f
-
-among_removed : (t name : List ℕ) (ms : Members) → is_among t ms ≡ false → is_among t (removed name ms) ≡ false
-among_removed t name [] none = refl
-among_removed t name (m ∷ ms) none =
-    let parts = either_false (bytes_eq t m.name) (is_among t ms) none in
-    by_test (bytes_eq m.name name) refl parts.0 parts.1 (among_removed t name ms parts.1)
+new_removed : (t name : List ℕ) (ms : Members) → IsNew t ms → IsNew t (removed name ms)
+new_removed t name [] new = tt
+new_removed t name (m ∷ ms) new = by_test (bytes_eq m.name name) refl (new_removed t name ms new.1)
   where
-    by_test : (b : Bool) → bytes_eq m.name name ≡ b → bytes_eq t m.name ≡ false → is_among t ms ≡ false → is_among t (removed name ms) ≡ false → is_among t (removed name (m ∷ ms)) ≡ false
-    by_test true e other later rest = rw e later
-    by_test false e other later rest = rw e (both_false (bytes_eq t m.name) (is_among t (removed name ms)) other rest)
+    by_test : (b : Bool) → bytes_eq m.name name ≡ b → IsNew t (removed name ms) → IsNew t (removed name (m ∷ ms))
+    by_test true e rest = rw e new.1
+    by_test false e rest = rw e (new.0, rest)
 
-not_false : (b : Bool) → not b ≡ true → b ≡ false
-not_false true e = cc
-not_false false e = refl
-
-distinct_tail : (m : Member) (ms : Members) → are_distinct (names (m ∷ ms)) ≡ true → (is_among m.name ms ≡ false) × (are_distinct (names ms) ≡ true)
-distinct_tail m ms e = let parts = and_parts (not (is_among m.name ms)) (are_distinct (names ms)) e in (not_false (is_among m.name ms) parts.0, parts.1)
-
-distinct_more : (m : Member) (ms : Members) → is_among m.name ms ≡ false → are_distinct (names ms) ≡ true → are_distinct (names (m ∷ ms)) ≡ true
-distinct_more m ms new d = and_from (not (is_among m.name ms)) (are_distinct (names ms)) (rw new refl) d
-
-distinct_removed : (name : List ℕ) (ms : Members) → are_distinct (names ms) ≡ true → are_distinct (names (removed name ms)) ≡ true
-distinct_removed name [] d = refl
+distinct_removed : (name : List ℕ) (ms : Members) → IsDistinct bytes_eq (names ms) → IsDistinct bytes_eq (names (removed name ms))
+distinct_removed name [] d = d
 distinct_removed name (m ∷ ms) d =
-    let parts = distinct_tail m ms d in
-    by_test (bytes_eq m.name name) refl parts.1 (distinct_more m (removed name ms) (among_removed m.name name ms parts.0) (distinct_removed name ms parts.1))
+    let later = IsDistinct-tail bytes_eq m.name (names ms) d in
+    by_test (bytes_eq m.name name) refl later
+    (IsDistinct-cons bytes_eq m.name (names (removed name ms)) (new_removed m.name name ms (IsDistinct-head bytes_eq m.name (names ms) d)) (distinct_removed name ms later))
   where
-    by_test : (b : Bool) → bytes_eq m.name name ≡ b → are_distinct (names ms) ≡ true → are_distinct (names (m ∷ removed name ms)) ≡ true → are_distinct (names (removed name (m ∷ ms))) ≡ true
+    by_test : (b : Bool) → bytes_eq m.name name ≡ b → IsDistinct bytes_eq (names ms) → IsDistinct bytes_eq (names (m ∷ removed name ms)) → IsDistinct bytes_eq (names (removed name (m ∷ ms)))
     by_test true e later rest = rw e later
     by_test false e later rest = rw e rest
 
@@ -90,21 +71,20 @@ apart name m ms none = by_test (bytes_eq m.name name) refl
     by_test true e = let found : Some m.value ≡ None = rw e at none in cc
     by_test false e = (e, rw e at none)
 
-among_appended : (t : List ℕ) (ms : Members) (m : Member) → is_among t ms ≡ false → bytes_eq t m.name ≡ false → is_among t (ms ++ m ∷ []) ≡ false
-among_appended t [] m none other = both_false (bytes_eq t m.name) false other refl
-among_appended t (n ∷ ms) m none other = let parts = either_false (bytes_eq t n.name) (is_among t ms) none in
-    both_false (bytes_eq t n.name) (is_among t (ms ++ m ∷ [])) parts.0 (among_appended t ms m parts.1 other)
+new_appended : (t : List ℕ) (ms : Members) (m : Member) → IsNew t ms → bytes_eq t m.name ≡ false → IsNew t (ms ++ m ∷ [])
+new_appended t [] m new other = (other, tt)
+new_appended t (n ∷ ms) m new other = (new.0, new_appended t ms m new.1 other)
 
-distinct_appended : (ms : Members) (m : Member) → are_distinct (names ms) ≡ true → value_of m.name ms ≡ None → are_distinct (names (ms ++ m ∷ [])) ≡ true
-distinct_appended [] m d none = refl
+distinct_appended : (ms : Members) (m : Member) → IsDistinct bytes_eq (names ms) → value_of m.name ms ≡ None → IsDistinct bytes_eq (names (ms ++ m ∷ []))
+distinct_appended [] m d none = IsDistinct-cons bytes_eq m.name [] tt d
 distinct_appended (n ∷ ms) m d none =
-    let parts = distinct_tail n ms d in
     let other = apart m.name n ms none in
-    distinct_more n (ms ++ m ∷ []) (among_appended n.name ms m parts.0 other.0) (distinct_appended ms m parts.1 other.1)
+    IsDistinct-cons bytes_eq n.name (names (ms ++ m ∷ [])) (new_appended n.name ms m (IsDistinct-head bytes_eq n.name (names ms) d) other.0)
+    (distinct_appended ms m (IsDistinct-tail bytes_eq n.name (names ms) d) other.1)
 
 pub members_replaced : (name : List ℕ) (v : Value) (ms : Members) → AreMembers ms → AreMembers (replaced name v ms)
 members_replaced name v ms are = record {
-  distinct = ap are_distinct (names_replaced name v ms) ∙ are.distinct;
+  distinct = subst (IsDistinct bytes_eq) (sym (names_replaced name v ms)) are.distinct;
   few = let few = are.few in omega (arith, length_replaced name v ms);
 }
 
@@ -136,13 +116,21 @@ members_deleted : (name : List ℕ) (old : Option Value) (ms : Members) → AreM
 members_deleted name (Some v) ms are = members_removed name ms are
 members_deleted name None ms are = are
 
+members_by : (ms : Members) (access : Access) → AreMembers ms → AreMembers (step_by access ms).members
+members_by ms (Reads name) are = members_read name (value_of name ms) ms are
+members_by ms (Writes name v) are = members_written name v (value_of name ms) ms refl are
+members_by ms (Deletes name) are = members_deleted name (value_of name ms) ms are
+members_by ms NoKey are = are
+
 -- what an operation leaves of members are members
-pub members_stepped : (ms : Members) (b : Binder) (operands : List Value) → AreMembers ms → AreMembers (object_step ms b operands).members
-members_stepped ms (GetMember name ic) [] are = members_read name (value_of name ms) ms are
-members_stepped ms (SetMember name ic) (v ∷ []) are = members_written name v (value_of name ms) ms refl are
-members_stepped ms (DeleteMember name ic) [] are = members_deleted name (value_of name ms) ms are
-members_stepped ms _ _ are = are
+pub members_stepped : (ms : Members) (b : Binder) (operands : List Value) → AreMembers ms → AreMembers (left_by ms (object_step ms b operands))
+members_stepped ms b operands are = by_access (access_of b operands)
+  where
+    by_access : (o : Option Access) → AreMembers (left_by ms (option_map (λ access. step_by access ms) o))
+    by_access None = are
+    by_access (Some access) = members_by ms access are
 
 -- an object begins as no members
 pub no_members : AreMembers []
-no_members = record { distinct = refl; few = omega arith }
+unfolding IsDistinct
+no_members = record { distinct = tt; few = omega arith }

@@ -1,5 +1,6 @@
 -- The steps of an object, by the place of the member that they are about.
-use Rattle.std.proofs.Common.{◌≡◌, ◌≢◌, ℕ, ◌<◌, true, false, List, [], ◌∷◌, ◌++◌, length, None, Some, refl, sym, ◌∙◌, ap, subst, arith, slice_set, nat_eq}
+use Rattle.std.proofs.Common.{◌≡◌, ◌≢◌, ℕ, ◌<◌, true, false, List, [], ◌∷◌, ◌++◌, length, None, Some, Result, Ok, refl, sym, ◌∙◌, ap, subst, arith, slice_set, nat_eq}
+use Rattle.std.specs.Prelude.{Err, IfOk}
 use Rattle.std.specs.List.{position, remove, slice_index_or}
 use Rattle.std.proofs.lemmas.Bool.Decides.{nat_tests}
 use Rattle.std.proofs.lemmas.Option.{slice_get_read}
@@ -8,9 +9,10 @@ use Rattle.dyn_value.specs.declared.value.Value.TheVariants as value
 use Rattle.dyn_value.specs.declared.fault.Fault.TheVariants.{NoMember, MembersFull}
 use Rattle.dyn_value.specs.declared.outcome.Outcome.{Outcome}
 use Rattle.dyn_value.specs.declared.outcome.Outcome.TheVariants as outcome
-use Rattle.object_model.specs.declared.member.Member.{Member}
-use Rattle.object_model.specs.Members.{Members, value_of, AreMembers}
-use Rattle.object_model.specs.Steps.{Step, read_member, write_member, delete_member}
+use Rattle.standard_binders.specs.declared.binder.Binder.{Binder}
+use Rattle.object_model.specs.Accesses.{Access, access_of}
+use Rattle.object_model.specs.Members.{Member, Members, value_of, AreMembers}
+use Rattle.object_model.specs.Steps.{Step, read_member, write_member, delete_member, step_by, object_step}
 use Rattle.object_model.proofs.MemberPlaces.{has_name, stands, absent, value_at, value_there, replaced_at, removed_at}
 use Rattle.object_model.proofs.MembersKept.{members_replaced, members_removed, members_appended}
 
@@ -61,3 +63,9 @@ write_added name v ms rest m none room is e =
 pub added_keeps : (name : List ℕ) (v : Value) (ms rest : Members) (m : Member) → position (has_name name) ms ≡ None → length ms ≢ 64 → m ≡ record { name = name; value = v } → rest ≡ ms ++ m ∷ [] → AreMembers ms → AreMembers rest
 added_keeps name v ms rest m none room is e are =
     subst AreMembers (sym e) (members_appended ms m are (ap (λ (k : Member). value_of k.name ms) is ∙ absent name ms none) (let few = are.few in omega arith))
+
+-- the step of an operation is that of its access
+pub stepped : (ms new : Members) (b : Binder) (operands : List Value) (access : Access) {E : Type 0} (r : Result Outcome E) → access_of b operands ≡ Some access → IfOk r (λ o. Is (step_by access ms) new o)
+    → IfOk r (λ o. object_step ms b operands ≡ Some (record { members = new; outcome = o }))
+stepped ms new b operands access (Ok o) found is = rw found (ap Some is)
+stepped ms new b operands access (Err x) found is = tt

@@ -1,7 +1,7 @@
 -- The members of texts, by the bytes of their names.
 use Rattle.std.proofs.Common.{◌≡◌, ◌≢◌, ℕ, Bool, true, false, List, length, codes, refl, sym, ◌∙◌, ap, encode_utf8_all, ℤ, pos, to_z, of_z}
 use Rattle.std.specs.Int.{w64}
-use Rattle.std.specs.Prelude.{FitsSigned}
+use Rattle.std.specs.Prelude.{FitsSigned, Result, Ok, Err, IfOk}
 use Rattle.std.specs.Str.{bytes_eq}
 use Rattle.std.proofs.Math.Utf8.{scalars}
 use Rattle.std.proofs.lemmas.Int.{to_z-of_z}
@@ -10,9 +10,10 @@ use Rattle.std.proofs.lemmas.Str.{chars-encodes, IsUtf8-from_ascii}
 use Rattle.std.specs.Str.{chars}
 use Rattle.dyn_value.specs.declared.value.Value.TheVariants as value
 use Rattle.dyn_value.specs.declared.fault.Fault.TheVariants.{NoMember}
+use Rattle.dyn_value.specs.declared.outcome.Outcome.{Outcome}
 use Rattle.dyn_value.specs.declared.outcome.Outcome.TheVariants as outcome
 use Rattle.dyn_value.proofs.Encoding.{ascii_label, chars_label, bytes_of_view}
-use Rattle.object_model.specs.Steps.{text_member}
+use Rattle.object_model.specs.Plain.{member_of}
 
 encoded_length : encode_utf8_all (codes "length") ≡ codes "length"
 encoded_length = bytes_of_view (codes "length") (codes "length") (IsUtf8-from_ascii (codes "length") (ascii_label (codes "length") refl)) (chars_label (codes "length") refl)
@@ -27,11 +28,12 @@ is_other name other = by_test (bytes_eq name (codes "length")) refl
     by_test true e = absurd (other (ap encode_utf8_all ((bytes_eq-Decides name (codes "length")).0 e) ∙ encoded_length))
     by_test false e = e
 
-pub length_member : (text name bytes : List ℕ) (n : ℤ) → scalars name ≡ true → bytes ≡ encode_utf8_all name → bytes_eq bytes (codes "length") ≡ true → FitsSigned w64 n → n ≡ pos (length text) → outcome.Value (value.Int (to_z w64 (of_z w64 n))) ≡ text_member text name
+pub length_member : (text name bytes : List ℕ) (n : ℤ) → scalars name ≡ true → bytes ≡ encode_utf8_all name → bytes_eq bytes (codes "length") ≡ true → FitsSigned w64 n → n ≡ pos (length text) → outcome.Value (value.Int (to_z w64 (of_z w64 n))) ≡ member_of (value.Text text) name
 length_member text name bytes n proper spelled same fits e =
     rw (is_length name proper (sym spelled ∙ (bytes_eq-Decides bytes (codes "length")).0 same), to_z-of_z w64 n fits, e) refl
 
-pub other_member : (text name bytes copy : List ℕ) → bytes ≡ encode_utf8_all name → bytes_eq bytes (codes "length") ≡ false → copy ≡ name → outcome.Fault (NoMember copy) ≡ text_member text name
-other_member text name bytes copy spelled other e =
+pub other_member : {E : Type 0} (r : Result Outcome E) (text name bytes : List ℕ) → bytes ≡ encode_utf8_all name → bytes_eq bytes (codes "length") ≡ false → IfOk r (λ o. o ≡ outcome.Fault (NoMember name)) → IfOk r (λ o. o ≡ member_of (value.Text text) name)
+other_member (Ok o) text name bytes spelled other e =
     let apart : encode_utf8_all name ≢ codes "length" = λ same. let t : bytes_eq bytes (codes "length") ≡ true = (bytes_eq-Decides bytes (codes "length")).1 (spelled ∙ same) in let f : true ≡ false = sym t ∙ other in cc in
     rw (is_other name apart, e) refl
+other_member (Err x) text name bytes spelled other e = tt

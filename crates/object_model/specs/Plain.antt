@@ -1,5 +1,5 @@
 -- What an operation gives that looks at no object.
-use Rattle.std.specs.Prelude.{ℕ, ◌+◌, ◌-◌, ◌<◌, pos, not, if◌then◌else◌, List, drop, length, Option, None, Some, find, codes, nat_eq}
+use Rattle.std.specs.Prelude.{ℕ, Bool, ◌+◌, ◌-◌, ◌<◌, pos, not, if◌then◌else◌, List, drop, length, Option, None, Some, find, codes, nat_eq}
 use Rattle.std.specs.List.{list_any}
 use Rattle.std.specs.Str.{bytes_eq}
 use Rattle.dyn_value.specs.declared.value.Value.{Value}

@@ -2,12 +2,15 @@
 //! stepping over the members as they stand.
 #![tactic(auto)]
 
+mod access;
+mod call;
 mod member;
 mod members;
 mod plain;
 #[cfg(test)]
 mod tests;
 
+pub use call::call_outcome;
 pub use member::Member;
 pub use members::ObjectMembers;
 pub use plain::plain_outcome;

@@ -1,11 +1,16 @@
-ghost use Rattle.std.specs.Prelude.{◌≡◌, ℕ, [], IfOk, OnErr};
+ghost use Rattle.std.specs.Prelude.{◌≡◌, ℕ, [], Some, IsSome, IfOk, OnErr};
 ghost use Rattle.std.specs.List.{AllByRecursion, position};
 ghost use Rattle.std.specs.Str.{bytes_eq};
 ghost use Rattle.dyn_value.specs.declared.value.Value.{Value};
 ghost use Rattle.dyn_value.specs.Proper.{IsProperIn};
-ghost use Rattle.object_model.specs.Members.{AreProperIn, value_of};
-ghost use Rattle.object_model.specs.Steps.{object_step, read_member, write_member, delete_member, IsAnswerIn};
+ghost use Rattle.object_model.specs.Accesses.{access_of, Reads, Writes, Deletes};
+ghost use Rattle.object_model.specs.Journals.{outcome_by};
+ghost use Rattle.object_model.specs.Members.{AreProperIn};
+ghost use Rattle.object_model.specs.Plain.{IsAnswerIn};
+ghost use Rattle.object_model.specs.Shown.{shown};
+ghost use Rattle.object_model.specs.Steps.{object_step, step_by};
 
+use crate::access::Access;
 use crate::member::Member;
 use dyn_value::{DynText, Fault, Outcome, Value};
 use sqlite_items::Items;
@@ -22,11 +27,9 @@ pub struct ObjectMembers {
 }
 
 impl Model for ObjectMembers {
-    ghost use Rattle.std.specs.Prelude.{List};
-    ghost use Rattle.object_model.specs.declared.member.Member.{Member};
-    ghost use Rattle.object_model.specs.Members.{AreMembers};
+    ghost use Rattle.object_model.specs.Members.{Members, AreMembers};
 
-    ghost Value = { List Member };
+    ghost Value = { Members };
 
     ghost view = { λ o. o.members };
 
@@ -56,14 +59,10 @@ impl ObjectMembers {
     /// The outcome of an operation on the members, with the operands after the target; the members stay. The one
     /// error is want of memory.
     pub fn answer(&self, binder: &Binder, operands: &[Value]) -> Result<Outcome, AllocError>
-        ensures { IfOk result (λ o. o ≡ (object_step self.now binder.now operands.now).outcome) }
+        requires { IsSome (access_of binder.now operands.now) }
+        ensures { IfOk result (λ o. outcome_by (object_step self.now binder.now operands.now) ≡ Some o) }
     {
-        match (binder, operands) {
-            (Binder::GetMember { name, .. }, []) => self.read(name),
-            (Binder::SetMember { name, .. }, [_]) => Ok(self.answer_to_write(name)),
-            (Binder::DeleteMember { name, .. }, []) => self.answer_to_delete(name),
-            _ => Ok(Outcome::Fault(Fault::NoOperator)),
-        }
+        self.answer_to(Access::of(binder, operands))
     }
 
     /// Makes an operation on the members, with the operands after the target, and answers its outcome. Where
@@ -74,28 +73,55 @@ impl ObjectMembers {
     ///   answers `MembersFull` where it would be the 65th.
     /// - A delete removes the member and answers nil, or `NoMember`.
     ///
-    /// An operation that is none on members, or has another count of operands, answers `NoOperator`.
+    /// An index operation does so with the member that has its key as its name. It answers `NoIndex` where the key is
+    /// no text, or one of more than 64 bytes. A member that is to be called is read.
     pub fn step(&mut self, binder: &Binder, operands: &[Value]) -> Result<Outcome, AllocError>
-        ensures step { IfOk result (λ o. object_step self.old binder.now operands.now ≡ record { members = self.new; outcome = o }) }
-        ensures proper { (functions objects : ℕ) → AreProperIn functions objects self.old → AllByRecursion (IsProperIn functions objects) operands.now → AreProperIn functions objects self.new }
-        ensures answer { (functions objects : ℕ) → AreProperIn functions objects self.old → IfOk result (IsAnswerIn functions objects) }
+        requires { IsSome (access_of binder.now operands.now) }
+        ensures step { IfOk result (λ o.
+            object_step self.old binder.now operands.now ≡ Some (record { members = self.new; outcome = o })) }
+        ensures proper { (functions objects : ℕ) → AreProperIn functions objects self.old →
+            AllByRecursion (IsProperIn functions objects) operands.now → AreProperIn functions objects self.new }
+        ensures answer { (functions objects : ℕ) →
+            AreProperIn functions objects self.old → IfOk result (IsAnswerIn functions objects) }
         ensures refused { OnErr result (self.new ≡ self.old) }
     {
-        match (binder, operands) {
-            (Binder::GetMember { name, .. }, []) => self.read(name),
-            (Binder::SetMember { name, .. }, [value]) => self.write(name, value),
-            (Binder::DeleteMember { name, .. }, []) => self.delete(name),
-            _ => Ok(Outcome::Fault(Fault::NoOperator)),
+        self.make(Access::of(binder, operands))
+    }
+
+    /// The outcome of an access.
+    fn answer_to(&self, access: Access) -> Result<Outcome, AllocError>
+        ensures { IfOk result (λ o. o ≡ (step_by (shown access.entry) self.now).outcome) }
+    {
+        match access {
+            Access::Read(name) => self.read(name),
+            Access::Write(name, _) => Ok(self.answer_to_write(name)),
+            Access::Delete(name) => self.answer_to_delete(name),
+            Access::NoKey => Ok(Outcome::Fault(Fault::NoIndex)),
+        }
+    }
+
+    /// Makes an access, and answers its outcome.
+    fn make(&mut self, access: Access) -> Result<Outcome, AllocError>
+        ensures step { IfOk result (λ o.
+            step_by (shown access.entry) self.old ≡ record { members = self.new; outcome = o }) }
+        ensures refused { OnErr result (self.new ≡ self.old) }
+    {
+        match access {
+            Access::Read(name) => self.read(name),
+            Access::Write(name, value) => self.write(name, value),
+            Access::Delete(name) => self.delete(name),
+            Access::NoKey => Ok(Outcome::Fault(Fault::NoIndex)),
         }
     }
 
     /// The value of the member of this name, or `NoMember`.
     fn read(&self, name: &DynText) -> Result<Outcome, AllocError>
-        ensures { IfOk result (λ o. read_member name.now (value_of name.now self.now) self.now ≡ record { members = self.now; outcome = o }) }
+        ensures { IfOk result (λ o. step_by (Reads name.now) self.now ≡ record { members = self.now; outcome = o }) }
     {
         match self.place_of(name) {
             Some(place) => {
-                let value = self.members.as_slice()[place].value.copy()?;
+                let member = &self.members.as_slice()[place];
+                let value = member.value.copy()?;
                 Ok(Outcome::Value(value))
             }
             None => Ok(Outcome::Fault(Fault::NoMember(name.copy()?))),
@@ -104,7 +130,8 @@ impl ObjectMembers {
 
     /// Gives the member of this name the value, in its place; or adds it at the end, or answers `MembersFull`.
     fn write(&mut self, name: &DynText, value: &Value) -> Result<Outcome, AllocError>
-        ensures step { IfOk result (λ o. write_member name.now value.now (value_of name.now self.old) self.old ≡ record { members = self.new; outcome = o }) }
+        ensures step { IfOk result (λ o.
+            step_by (Writes name.now value.now) self.old ≡ record { members = self.new; outcome = o }) }
         ensures refused { OnErr result (self.new ≡ self.old) }
     {
         let member = Member {
@@ -123,7 +150,8 @@ impl ObjectMembers {
 
     /// Removes the member of this name, or answers `NoMember`.
     fn delete(&mut self, name: &DynText) -> Result<Outcome, AllocError>
-        ensures step { IfOk result (λ o. delete_member name.now (value_of name.now self.old) self.old ≡ record { members = self.new; outcome = o }) }
+        ensures step { IfOk result (λ o.
+            step_by (Deletes name.now) self.old ≡ record { members = self.new; outcome = o }) }
         ensures refused { OnErr result (self.new ≡ self.old) }
     {
         let Some(place) = self.place_of(name) else {
@@ -135,7 +163,7 @@ impl ObjectMembers {
 
     /// The outcome of a write.
     fn answer_to_write(&self, name: &DynText) -> Outcome
-        ensures { (v : Value) → result ≡ (write_member name.now v (value_of name.now self.now) self.now).outcome }
+        ensures { (v : Value) → result ≡ (step_by (Writes name.now v) self.now).outcome }
     {
         match self.place_of(name) {
             Some(_) => Outcome::Value(Value::Nil),
@@ -146,7 +174,7 @@ impl ObjectMembers {
 
     /// The outcome of a delete.
     fn answer_to_delete(&self, name: &DynText) -> Result<Outcome, AllocError>
-        ensures { IfOk result (λ o. o ≡ (delete_member name.now (value_of name.now self.now) self.now).outcome) }
+        ensures { IfOk result (λ o. o ≡ (step_by (Deletes name.now) self.now).outcome) }
     {
         match self.place_of(name) {
             Some(_) => Ok(Outcome::Value(Value::Nil)),

@@ -5,10 +5,10 @@ use Rattle.std.proofs.lemmas.Int.{ints}
 use Rattle.object_model.proofs.TextMembers.{length_member, other_member}
 use Rattle.object_model.proofs.plain.text_member.Goals as goal
 
-pub returns-then-eq : goal.returns-then-eq
-returns-then-eq c =
+pub returns-then-eq-clause-outcome : goal.returns-then-eq-clause-outcome
+returns-then-eq-clause-outcome c =
     let fits : FitsSigned w64 c.length.result = omega (arith, ints) in
     length_member c.args.text.now c.args.name.now c.as_str.result.now c.length.result c.as_str.ensures.proper.0 c.as_str.ensures.bytes (sym c.eq.ensures ∙ c.if-eq.true) fits c.length.ensures
 
-pub returns : goal.returns
-returns c = other_member c.args.text.now c.args.name.now c.as_str.result.now c.in_ok-copy.field-0 c.as_str.ensures.bytes (sym c.eq.ensures ∙ c.if-eq.false) c.in_ok-copy.ensures
+pub returns-clause-outcome : goal.returns-clause-outcome
+returns-clause-outcome c = other_member c.no_member.result c.args.text.now c.args.name.now c.as_str.result.now c.as_str.ensures.bytes (sym c.eq.ensures ∙ c.if-eq.false) c.no_member.ensures

@@ -1,5 +1,5 @@
 use Rattle.std.proofs.Common.{◌≡◌, ◌≢◌, ◌∷◌, ◌++◌, [], sym, ◌∙◌, ap, refl, length, slice_set}
-use Rattle.object_model.specs.declared.member.Member.{Member}
+use Rattle.object_model.specs.Members.{Member}
 use Rattle.object_model.specs.Steps.{Step}
 use Rattle.object_model.proofs.StepsByPlace.{write_found, write_full, write_added}
 use Rattle.object_model.proofs.members.ObjectMembers.answer_to_write.Goals as goal

@@ -1,5 +1,5 @@
 use Rattle.std.proofs.Common.{◌≡◌, ◌≢◌, sym, ◌∙◌, ap, subst, [], ◌∷◌, ◌++◌, length, slice_set}
-use Rattle.object_model.specs.declared.member.Member.{Member}
+use Rattle.object_model.specs.Members.{Member}
 use Rattle.object_model.specs.Members.{AreMembers}
 use Rattle.object_model.proofs.StepsByPlace.{write_found, write_full, write_added, write_keeps, added_keeps}
 use Rattle.object_model.proofs.members.ObjectMembers.write.Goals as goal
