@@ -12,7 +12,7 @@ use std::alloc::{AllocError, Global};
 pub(crate) fn are_declared_once(alloc: Global, script: &Script) -> Result<bool, AllocError>
     ensures { IfOk result (λ b. IsTrue b
         ↔ (IsDistinct bytes_eq (item_names script.now)
-            × (list_all (are_task_lets_new (item_names script.now)) script.now.tasks ≡ true))) }
+        × (list_all (are_task_lets_new (item_names script.now)) script.now.tasks ≡ true))) }
 {
     let items = names_of_items(alloc, script)?;
     if !are_distinct(items.as_slice()) {
