@@ -1,3 +1,5 @@
+//! Where bytes come from and go to: sources and sinks, in memory and over a reader and a writer.
+
 mod clean_sink;
 mod clean_source;
 mod input_source;

@@ -1,3 +1,5 @@
+//! What a run came to, and its text.
+
 mod entries;
 mod journals;
 mod rendering;
