@@ -1,5 +1,5 @@
 -- The tests of a binder hold of all that the metaobjects describe.
-use Rattle.std.proofs.Common.{◌≡◌, ◌<◌, ℕ, zero, suc, Bool, true, false, ◌&&◌, List, [], ◌∷◌, length, map, Option, None, Some, refl, sym, ◌∙◌, ap, subst, cond, arith, slice_get, nat_eq, nat_le, nat_lt, eq-eqb, encode_utf8_all}
+use Rattle.std.proofs.Common.{◌≡◌, ℕ, Bool, true, false, ◌&&◌, List, [], ◌∷◌, length, map, Option, None, Some, refl, sym, ◌∙◌, ap, subst, cond, arith, slice_get, nat_eq, nat_le, nat_lt, eq-eqb, encode_utf8_all}
 use Rattle.std.specs.Option.{option_map}
 use Rattle.std.specs.Str.{bytes_eq}
 use Rattle.std.proofs.lemmas.Bool.{and_from}
@@ -10,14 +10,13 @@ use Rattle.dyn_value.specs.declared.value.Kind.TheVariants as kind
 use Rattle.dyn_value.specs.declared.value.Value.{Value}
 use Rattle.dyn_value.specs.declared.value.Value.TheVariants as value
 use Rattle.dyn_value.specs.Kinds.{kind_of, same_kind}
-use Rattle.expando_class.specs.declared.class.ClassRef.{ClassRef}
 use Rattle.expando_class.specs.Class.{number_of}
 use Rattle.expr_tree.specs.Meanings.{is_fun, is_text, is_long}
 use Rattle.object_model.specs.Accesses.{is_key}
 use Rattle.restrictions.specs.declared.restriction.Restriction.{Restriction}
-use Rattle.restrictions.specs.declared.restriction.Restriction.TheVariants.{Kind as IsKind, Fun as IsFun, Key, LongKey, Class}
-use Rattle.restrictions.specs.Meanings.{holds, all_hold}
-use Rattle.rule_model.specs.Tests.{Known, Form, OneKind, TwoKinds, Member, Index, Called, member_tests, key_tests, index_tests, called_tests, tests_by}
+use Rattle.restrictions.specs.declared.restriction.Restriction.TheVariants.{Kind as IsKind, Key, LongKey, Class}
+use Rattle.restrictions.specs.Meanings.{all_hold}
+use Rattle.rule_model.specs.Tests.{Form, OneKind, TwoKinds, Member, Index, Called, member_tests, key_tests, index_tests, called_tests, tests_by}
 use Rattle.meta_object.specs.declared.meta.MetaObject.{MetaObject}
 use Rattle.meta_object.specs.declared.meta.Shape.{Shape}
 use Rattle.meta_object.specs.declared.meta.Shape.TheVariants.{Plain, Expando}

@@ -18,7 +18,6 @@ use Rattle.standard_binders.specs.Functions.{Functions}
 use Rattle.object_model.specs.Accesses.{is_key}
 use Rattle.rule_model.specs.declared.claim.Claim.{Claim}
 use Rattle.rule_model.specs.declared.claim.ClassClaim.{ClassClaim}
-use Rattle.rule_model.specs.declared.claim.FunClaim.{FunClaim}
 use Rattle.rule_model.specs.Claims.{IsPlaced, ListHolds, changed}
 use Rattle.rule_model.specs.MemberAnswers.{IsMemberAnswer, is_by_key, member_after, member_node, name_of, reach_of}
 use Rattle.rule_model.specs.Soundness.{IsSound}
@@ -26,9 +25,9 @@ use Rattle.rule_model.specs.Tests.{form_of, key_tests, member_tests, index_tests
 use Rattle.rule_model.proofs.MemberSoundness.{named_sound, key_sound}
 use Rattle.meta_object.specs.declared.bound.Bound.{Bound}
 use Rattle.meta_object.specs.declared.meta.MetaObject.{MetaObject}
-use Rattle.meta_object.specs.Bindings.{IsBinding, IsClaimed, HasTests}
+use Rattle.meta_object.specs.Bindings.{IsBinding}
 use Rattle.meta_object.specs.Metas.{class_in_shape, kind_in, known_in, target_class}
-use Rattle.meta_object.specs.Reaching.{IsNext, IsKnownAs, key_in, member_tests_on, number_in, reached_name, text_in}
+use Rattle.meta_object.specs.Reaching.{IsNext, IsKnownAs, member_tests_on, number_in, reached_name, text_in}
 use Rattle.meta_object.proofs.Described.{described_hold}
 
 -- the tests of an operation on a member are those of its binder

@@ -1,5 +1,5 @@
 -- The class to which an object moves.
-use Rattle.std.proofs.Common.{◌≡◌, ℕ, true, false, List, ◌∷◌, [], ◌++◌, length, Option, None, Some, refl, sym, ◌∙◌, ap, subst, cond, ◌≢◌, IfSome, IfNone, slice_get, unwrap_or, nat_eq, ◌==◌, eq-eqb, option_map}
+use Rattle.std.proofs.Common.{◌≡◌, ℕ, false, List, ◌∷◌, [], ◌++◌, length, Option, None, Some, refl, sym, ◌∙◌, ap, subst, cond, ◌≢◌, IfSome, IfNone, slice_get, unwrap_or, ◌==◌, eq-eqb, option_map}
 use Rattle.std.specs.List.{All}
 use Rattle.expando_class.specs.declared.class.ClassRef.{ClassRef}
 use Rattle.expando_class.specs.declared.pass.ClassPass.{ClassPass}

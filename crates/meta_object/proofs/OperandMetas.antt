@@ -1,5 +1,5 @@
 -- Metaobjects that are made of operands can be bound, and describe them.
-use Rattle.std.proofs.Common.{◌≡◌, ◌<◌, ℕ, zero, suc, Bool, true, false, ◌&&◌, not, IsTrue, List, [], ◌∷◌, length, Option, None, Some, refl, sym, ◌∙◌, ap, subst, cond, arith, slice_get, get_or, unwrap_or, IfSome}
+use Rattle.std.proofs.Common.{◌≡◌, ◌<◌, ℕ, zero, suc, Bool, true, false, ◌&&◌, not, IsTrue, List, length, Option, None, Some, refl, sym, ◌∙◌, ap, subst, cond, arith, slice_get, get_or, unwrap_or, IfSome}
 use Rattle.std.specs.Option.{option_map}
 use Rattle.std.proofs.lemmas.Option.{slice_get_within, slice_get-get_or}
 use Rattle.dyn_value.specs.declared.value.Kind.{Kind}

@@ -1,5 +1,5 @@
 -- The tests that are made from metaobjects are those of the operands.
-use Rattle.std.proofs.Common.{◌≡◌, ℕ, zero, suc, Bool, true, false, ◌&&◌, not, List, [], ◌∷◌, length, map, Option, None, Some, refl, sym, ◌∙◌, ap, subst, cond, arith, slice_get, unwrap_or}
+use Rattle.std.proofs.Common.{◌≡◌, ℕ, Bool, true, false, ◌&&◌, not, List, [], ◌∷◌, length, map, Option, None, Some, refl, sym, ◌∙◌, ap, subst, cond, arith, slice_get, unwrap_or}
 use Rattle.std.specs.Option.{option_map}
 use Rattle.dyn_value.specs.declared.value.Kind.{Kind}
 use Rattle.dyn_value.specs.declared.value.Kind.TheVariants as kind
@@ -12,12 +12,10 @@ use Rattle.expando_class.specs.Class.{number_of}
 use Rattle.standard_binders.specs.declared.binder.Binder.{Binder}
 use Rattle.standard_binders.specs.declared.binder.Binder.TheVariants as binder
 use Rattle.standard_binders.specs.Binders.{is_on_members}
-use Rattle.restrictions.specs.declared.restriction.Restriction.{Restriction}
 use Rattle.restrictions.specs.declared.restriction.Restriction.TheVariants.{Kind as IsKind}
 use Rattle.rule_model.specs.Soundness.{is_object, looks_at_none}
 use Rattle.rule_model.specs.Tests.{Form, OneKind, TwoKinds, Member, Index, Called, Known, form_of, called_tests, index_tests, key_tests, known_class, known_of, known_value, member_tests, tests_by, tests_of}
 use Rattle.meta_object.specs.declared.meta.MetaObject.{MetaObject}
-use Rattle.meta_object.specs.declared.meta.Shape.TheVariants.{Plain, Expando}
 use Rattle.meta_object.specs.Metas.{IsLendable, IsMetaOf, class_in_shape, kind_in, known_in, shape_with}
 use Rattle.meta_object.specs.Operands.{AreMetasOf, IsLentFor}
 

@@ -9,8 +9,8 @@ use Rattle.dyn_value.specs.Kinds.{kind_of}
 use Rattle.expando_class.specs.declared.class.ClassRef.{ClassRef}
 use Rattle.expando_class.specs.declared.pass.ClassPass.{ClassPass}
 use Rattle.expando_class.specs.declared.table.ClassTable.{ClassTable}
-use Rattle.expando_class.specs.Class.{number_of, names_of, IsClassOf}
-use Rattle.expando_class.specs.Pass.{IsPassOf, class_map}
+use Rattle.expando_class.specs.Class.{number_of, IsClassOf}
+use Rattle.expando_class.specs.Pass.{IsPassOf}
 use Rattle.standard_binders.specs.declared.binder.Binder.{Binder}
 use Rattle.standard_binders.specs.declared.binder.Binder.TheVariants as binder
 use Rattle.standard_binders.specs.Binders.{is_on_members, operand_count_of}

@@ -1,10 +1,10 @@
 -- The bound is made of the parts of a binding.
-use Rattle.std.proofs.Common.{◌≡◌, ◌∙◌, ap, subst, ℕ, Option, List, [], ◌∷◌, None, unwrap_or, refl}
+use Rattle.std.proofs.Common.{◌≡◌, ◌∙◌, ap, subst, ℕ, Option, [], ◌∷◌, unwrap_or, refl}
 use Rattle.expr_tree.specs.declared.node.Node.{Node}
 use Rattle.rule_model.specs.declared.reach.Reach.{Reach}
 use Rattle.rule_model.specs.MemberAnswers.{member_node, reach_of}
 use Rattle.meta_object.specs.Reaching.{IsNext, number_in}
-use Rattle.meta_object.proofs.MemberBounds.{IsMade, member_binding}
+use Rattle.meta_object.proofs.MemberBounds.{member_binding}
 use Rattle.meta_object.proofs.Nexts.{number_there}
 use Rattle.meta_object.proofs.member.member_bound.Goals as goal
 

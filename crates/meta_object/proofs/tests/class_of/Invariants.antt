@@ -4,4 +4,4 @@ use Rattle.expando_class.specs.Pass.{IsPassOf}
 use Rattle.meta_object.proofs.tests.class_of.Given as goal
 
 abbrev pub invariant-loop-number : goal.invariant-loop-number
-invariant-loop-number l = IsPassOf l.table l.pass × IsClassOf l.table l.class
+invariant-loop-number g l = IsPassOf l.table l.pass × IsClassOf l.table l.class
