@@ -24,13 +24,17 @@ use Rattle.meta_object.specs.Metas.{Describes, known_in, target_class}
 -- after that the pass knows.
 pub record IsClaimed (functions : Functions) (pass : ClassPass) (metas : List MetaObject) (claim : Claim) : Type 0 where
   pub class : (c : ClassClaim) → claim.class ≡ Some c → IsSomeAnd (target_class metas) (λ shown.
-      (number_of shown ≡ c.class) × ((more : List (List ℕ)) × (ListHolds c (names_of shown) more × ((n : ℕ) → c.after ≡ Some n → class_map pass n ≡ Some more))))
+      (number_of shown ≡ c.class)
+      × ((more : List (List ℕ))
+      × (ListHolds c (names_of shown) more × ((n : ℕ) → c.after ≡ Some n → class_map pass n ≡ Some more))))
   pub fun : FunHolds claim functions
 
 -- a sound bound for the operation of these metaobjects, which serves for all that they describe
-pub record IsBinding (functions : Functions) (pass : ClassPass) (b : Binder) (metas : List MetaObject) (bound : Bound) : Type 0 where
+pub record IsBinding (functions : Functions) (pass : ClassPass) (b : Binder) (metas : List MetaObject) (bound : Bound)
+    : Type 0 where
   pub sound : IsSound b (all_hold bound.restrictions) bound.body bound.claim
-  pub passing : (operands : List Value) (class : ℕ) → Describes metas operands class → all_hold bound.restrictions operands class ≡ true
+  pub passing : (operands : List Value) (class : ℕ) → Describes metas operands class
+      → all_hold bound.restrictions operands class ≡ true
   pub holds : IsClaimed functions pass metas bound.claim
 
 -- it looks at what the tests of its binder look at, in their order

@@ -91,7 +91,8 @@ IsExpandoOr _ = ⊤
 
 -- One metaobject for each operand of the binder, in order; what they show is of the table, as are the classes that the
 -- pass knows; and the functions that they show are of the language.
-pub record CanBind (functions : Functions) (table : ClassTable) (pass : ClassPass) (b : Binder) (metas : List MetaObject) : Type 0 where
+pub record CanBind (functions : Functions) (table : ClassTable) (pass : ClassPass) (b : Binder) (metas : List MetaObject)
+    : Type 0 where
   pub key : IsTrue (has_key b)
   pub count : length metas ≡ operand_count_of b
   pub own : IsPassOf table pass
@@ -113,6 +114,8 @@ IsValue (Some known) v = v ≡ known
 -- the metaobjects describe these operands, and the number of the target's class
 pub record Describes (metas : List MetaObject) (operands : List Value) (class : ℕ) : Type 0 where
   pub count : length operands ≡ length metas
-  pub kinds : (i : ℕ) (m : MetaObject) (v : Value) → slice_get metas i ≡ Some m → slice_get operands i ≡ Some v → kind_of v ≡ kind_in m.shape
-  pub values : (i : ℕ) (m : MetaObject) (v : Value) → slice_get metas i ≡ Some m → slice_get operands i ≡ Some v → IsValue m.value v
+  pub kinds : (i : ℕ) (m : MetaObject) (v : Value) → slice_get metas i ≡ Some m → slice_get operands i ≡ Some v
+      → kind_of v ≡ kind_in m.shape
+  pub values : (i : ℕ) (m : MetaObject) (v : Value) → slice_get metas i ≡ Some m → slice_get operands i ≡ Some v
+      → IsValue m.value v
   pub in_class : (m : MetaObject) → slice_get metas 0 ≡ Some m → IsInClass m.shape class

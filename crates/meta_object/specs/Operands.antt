@@ -27,11 +27,13 @@ pub record AreMetasOf (operands : List Value) (class : Option ClassRef) (metas :
 
 -- the class of this number is lent for an operation on an object, and none for one that looks at no object
 abbrev pub IsLentFor : Binder → List Value → ℕ → Option ClassRef → Type 0
-IsLentFor b operands number class = option_map number_of class ≡ (if looks_at_none b operands then None else Some number)
+IsLentFor b operands number class =
+    option_map number_of class ≡ (if looks_at_none b operands then None else Some number)
 
--- The operands suit the binder, whose name may be one; the classes are of the table; and the functions that the operands
--- are, are of the language.
-pub record CanBeBound (functions : Functions) (table : ClassTable) (pass : ClassPass) (b : Binder) (operands : List Value) (class : Option ClassRef) : Type 0 where
+-- The operands suit the binder, whose name may be one; the classes are of the table; and the functions among the
+-- operands are of the language.
+pub record CanBeBound (functions : Functions) (table : ClassTable) (pass : ClassPass) (b : Binder)
+    (operands : List Value) (class : Option ClassRef) : Type 0 where
   pub key : IsTrue (has_key b)
   pub suit : Suit b operands
   pub own : IsPassOf table pass

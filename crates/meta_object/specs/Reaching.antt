@@ -45,7 +45,8 @@ IsKnownAs pass names (Some class) = (names_of class ≡ names) × (class_map pas
 
 -- The class to which an object of this class moves when the member of a name at this place is reached, where it does
 -- move: it has one name more or less, and the pass knows it.
-pub record IsNext (pass : ClassPass) (class : ClassRef) (reach : Reach) (name : List ℕ) (place : Option ℕ) (next : Option ClassRef) : Type 0 where
+pub record IsNext (pass : ClassPass) (class : ClassRef) (reach : Reach) (name : List ℕ) (place : Option ℕ)
+    (next : Option ClassRef) : Type 0 where
   pub after : option_map number_of next ≡ member_after reach place (length (names_of class) == 64) (number_in next)
   pub known : IsKnownAs pass (changed (names_of class) name place) next
 

@@ -14,11 +14,11 @@ use standard_binders::Binder;
 use std::alloc::{AllocError, Global};
 use std::sync::Wait;
 
-// Each binds the operation of a binder of its kind on the operands of these metaobjects, the target first. The one error
-// is want of memory; the table may then have a further class that no object has, and the pass may know it.
+// Each binds the operation of a binder of its kind on the operands of these metaobjects, the target first. The one
+// error is want of memory; the table may then have a further class that no object has, and the pass may know it.
 impl MetaObject {
-    /// Binds `GetMember`. An object of the runtime hands the language its own answer, save where its class has no member of the
-    /// name.
+    /// Binds `GetMember`. An object of the runtime hands the language its own answer, save where its class has no
+    /// member of the name.
     pub fn bind_get_member<L: Language, R: Wait>(
         alloc: Global,
         rt: &R,
@@ -58,8 +58,8 @@ impl MetaObject {
         Ok(bound)
     }
 
-    /// Binds `DeleteMember`. An object of the runtime hands the language its own answer, save where its class has no member of the
-    /// name.
+    /// Binds `DeleteMember`. An object of the runtime hands the language its own answer, save where its class has no
+    /// member of the name.
     pub fn bind_delete_member<L: Language, R: Wait>(
         alloc: Global,
         rt: &R,
@@ -155,8 +155,8 @@ impl MetaObject {
         Ok(bound)
     }
 
-    /// Binds `InvokeMember`. An object of the runtime hands the language its own answer, save where its class has no member of the
-    /// name.
+    /// Binds `InvokeMember`. An object of the runtime hands the language its own answer, save where its class has no
+    /// member of the name.
     pub fn bind_invoke_member<L: Language, R: Wait>(
         alloc: Global,
         rt: &R,

@@ -1,4 +1,5 @@
-//! What holds of the metaobjects of an operation's operands. The functions compute nothing; their contracts are the facts.
+//! What holds of the metaobjects of an operation's operands. The functions compute nothing; their contracts are the
+//! facts.
 ghost use Rattle.std.specs.Prelude.{◌≡◌, ℕ, List, Option, map};
 ghost use Rattle.dyn_value.specs.declared.value.Value.{Value};
 ghost use Rattle.expando_class.specs.declared.class.ClassRef.{ClassRef};

@@ -36,17 +36,19 @@ pub record HoldsIn (classes : ClassMap) (functions : Functions) (claim : Claim) 
 
 -- The body does to an object in this state what the step does. The object is then of the class after, where the claim
 -- names one, and else of its own; its names are those of that class.
-pub record DoesIn (classes : ClassMap) (body : List Node) (claim : Claim) (operands : List Value) (s : State) (to : Step) : Type 0 where
+pub record DoesIn (classes : ClassMap) (body : List Node) (claim : Claim) (operands : List Value) (s : State) (to : Step)
+    : Type 0 where
   pub more : List (List ℕ)
   pub does : Does body operands more s to
   pub class : (state_after operands more s (root body)).class ≡ unwrap_or (class_after claim) s.class
-  pub names : classes (state_after operands more s (root body)).class ≡ Some (state_after operands more s (root body)).names
+  pub names : classes (state_after operands more s (root body)).class
+      ≡ Some (state_after operands more s (root body)).names
 
--- Whatever the classes and the functions are under which the claim holds: wherever the test is true of operands that suit
--- the binder and of the class of a state whose names are those of its class, the body does what the operation does.
+-- Whatever the classes and the functions are under which the claim holds: wherever the test is true of operands that
+-- suit the binder and of the class of a state whose names are those of its class, the body does what the operation does.
 pub record IsSoundIn (b : Binder) (test : List Value → ℕ → Bool) (body : List Node) (claim : Claim) : Type 0 where
-  pub object : (classes : ClassMap) (functions : Functions) (s : State) (ms : Members) (o : ℕ) (arguments : List Value) (access : Access)
-      → HoldsIn classes functions claim → classes s.class ≡ Some s.names → HasMembers s ms → AreMembers ms
+  pub object : (classes : ClassMap) (functions : Functions) (s : State) (ms : Members) (o : ℕ) (arguments : List Value)
+      (access : Access) → HoldsIn classes functions claim → classes s.class ≡ Some s.names → HasMembers s ms → AreMembers ms
       → access_of b arguments ≡ Some access → test (value.Obj o ∷ arguments) s.class ≡ true
       → DoesIn classes body claim (value.Obj o ∷ arguments) s (step_by access ms)
   pub plain : (classes : ClassMap) (functions : Functions) (s : State) (operands : List Value)

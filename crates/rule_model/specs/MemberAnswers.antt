@@ -33,8 +33,8 @@ is_by_key binder.SetIndex = true
 is_by_key binder.DeleteIndex = true
 is_by_key _ = false
 
--- The node that reaches the member of a name, which stands at this place of its class, or nowhere. The class may be full;
--- the last number is that of the class to which an object moves that loses or gets the member.
+-- The node that reaches the member of a name, which stands at this place of its class, or nowhere. The class may be
+-- full; the last number is that of the class to which an object moves that loses or gets the member.
 abbrev pub member_node : Reach → List ℕ → Option ℕ → Bool → ℕ → Node
 member_node Reads name (Some place) full after = Read place
 member_node Reads name None full after = Throw (NoMember name)

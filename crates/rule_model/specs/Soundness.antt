@@ -59,11 +59,12 @@ looks_at_none b operands = not (is_on_members b && is_object (at operands 0))
 abbrev pub Suit : Binder → List Value → Type 0
 Suit b operands = length operands ≡ operand_count_of b
 
--- A rule for a binder, by its test, its body and its claim, is sound: wherever its test is true of operands that suit the
--- binder and a state's class, and its claim holds, the body does what the operation does.
+-- A rule for a binder, by its test, its body and its claim, is sound: wherever its test is true of operands that suit
+-- the binder and a state's class, and its claim holds, the body does what the operation does.
 pub record IsSound (b : Binder) (test : List Value → ℕ → Bool) (body : List Node) (claim : Claim) : Type 0 where
   -- it passes on the class alone of which it claims something
-  pub guarded : (c : ClassClaim) (operands : List Value) (class : ℕ) → claim.class ≡ Some c → test operands class ≡ true → class ≡ c.class
+  pub guarded : (c : ClassClaim) (operands : List Value) (class : ℕ) → claim.class ≡ Some c → test operands class ≡ true
+      → class ≡ c.class
   -- the class that the body names is the claim's class after
   pub moves : class_after claim ≡ named_class (root body)
   -- of an operation on an object, on its members

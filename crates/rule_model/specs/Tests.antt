@@ -11,8 +11,8 @@ use Rattle.restrictions.specs.declared.restriction.Restriction.TheVariants.{Kind
 use Rattle.standard_binders.specs.declared.binder.Binder.{Binder}
 use Rattle.standard_binders.specs.declared.binder.Binder.TheVariants as binder
 
--- what a binding knows of an operand: its kind; which value it is, of a function or a text; and the number of its class,
--- of an object on whose members the operation is
+-- what a binding knows of an operand: its kind; which value it is, of a function or a text; and the number of its
+-- class, of an object on whose members the operation is
 pub record Known : Type 0 where
   pub kind : Kind
   pub value : Option Value
@@ -55,7 +55,9 @@ key_tests n k _ = IsKind 0 kind.Obj ∷ IsKind 1 k ∷ []
 -- a text is read by a key of some kind; no other value that is no object is indexed
 abbrev pub index_tests : Bool → Known → Known → Option ℕ → List Restriction
 index_tests reads target key None =
-    if reads && same_kind target.kind kind.Text then IsKind 0 kind.Text ∷ IsKind 1 key.kind ∷ [] else IsKind 0 target.kind ∷ []
+    if reads && same_kind target.kind kind.Text
+    then IsKind 0 kind.Text ∷ IsKind 1 key.kind ∷ []
+    else IsKind 0 target.kind ∷ []
 index_tests reads target key (Some n) = key_tests n key.kind key.value
 
 -- of a function its number is looked at
