@@ -7,7 +7,7 @@ use Rattle.script_front.specs.Script.{IsScript}
 use Rattle.dlr_top.specs.declared.report.Report.{Report}
 use Rattle.dlr_top.specs.declared.words.Options.{Options}
 use Rattle.dlr_top.specs.Commands.{command_of}
-use Rattle.dlr_top.specs.Devices.{Adds, AddsFirst}
+use Rattle.dlr_top.specs.Devices.{Adds, AddsProperFront}
 use Rattle.dlr_top.specs.Headline.{Reports, SomeFaulted}
 use Rattle.dlr_top.specs.Lawful.{IsLawful, IsSerial}
 use Rattle.dlr_top.specs.Rendering.{report_text}
@@ -34,10 +34,10 @@ whole_report program options report status found words held before after read co
   faulted = λ one. faulted (sym is ∙ one);
 }
 
--- a front of the text was written
+-- a proper front of the text was written
 pub front_report : (program : Program) (options : Options) (report : Report) (status : ℕ) (words : List (List ℕ)) (held before after : Option (List ℕ))
     → IfSome held (λ bytes. IsScript bytes (script_of program)) → command_of words ≡ Some options → IsLawful program report → IsSerial program report
-    → AddsFirst before after (encode_utf8_all (report_text program options report)) → status ≡ 5 → Reports status words held before after report
+    → AddsProperFront before after (encode_utf8_all (report_text program options report)) → status ≡ 5 → Reports status words held before after report
 front_report program options report status words held before after read commanded lawful serial adds five = record {
   program = program;
   read = read;

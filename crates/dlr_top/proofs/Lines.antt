@@ -1,13 +1,14 @@
 -- Texts that are written piece by piece.
 use Rattle.std.proofs.Common.{◌≡◌, ℕ, zero, suc, ◌+◌, ◌-◌, ◌<◌, ◌≤◌, List, [], ◌∷◌, ◌++◌, length, take, drop, get_or, sym, ap, ◌∙◌, arith, append_assoc, append-nil, add-one, length-append}
-use Rattle.std.specs.Prelude.{codes, encode_utf8_all, Result, OnOk}
+use Rattle.std.specs.Prelude.{codes, encode_utf8_all, Result, Ok, Err, OnOk, OnErr}
 use Rattle.std.specs.List.{flat_map, range_with_len}
 use Rattle.std.proofs.lemmas.List.{take_more, take_all}
 use Rattle.std.proofs.lemmas.List.Concat.{flat_map-append}
 use Rattle.std.proofs.lemmas.List.FromFn.{get_or-range_with_len, length-range_with_len}
-use Rattle.std.proofs.lemmas.Result.{on_ok_weaker}
+use Rattle.std.proofs.lemmas.Result.{on_ok_weaker, on_err_weaker}
 use Rattle.std.proofs.lemmas.Str.{encodes-append}
-use Rattle.object_model.specs.declared.member.Member.{Member}
+use Rattle.object_model.specs.Members.{Member}
+use Rattle.program_eval.specs.Stores.{Begins}
 use Rattle.script_front.specs.declared.tree.Task.{Task}
 use Rattle.dlr_top.specs.declared.report.TaskEnd.{TaskEnd}
 use Rattle.dlr_top.specs.Rendering.{task_text, tasks_text, member_text, members_text}
@@ -21,6 +22,21 @@ both out mid last a b e1 e2 =
 -- the same, where the second piece is written last
 pub both_ok : {T E : Type 0} (r : Result T E) (out mid last a b : List ℕ) → mid ≡ out ++ encode_utf8_all a → OnOk r (last ≡ mid ++ encode_utf8_all b) → OnOk r (last ≡ out ++ encode_utf8_all (a ++ b))
 both_ok r out mid last a b e1 e2 = on_ok_weaker r (λ h. both out mid last a b e1 h) e2
+
+-- what was there stays at the front, where memory was refused after one more piece
+begins_on : (out before after more : List ℕ) → before ≡ out ++ more → Begins before after → Begins out after
+begins_on out before after more e begins =
+    (more ++ begins.0, begins.1 ∙ ap (λ z. z ++ begins.0) e ∙ append_assoc out more begins.0)
+
+pub refused_after : {T E : Type 0} (r : Result T E) (out before after more : List ℕ) → before ≡ out ++ more
+    → OnErr r (Begins before after) → OnErr r (Begins out after)
+refused_after r out before after more e begins = on_err_weaker r (λ b. begins_on out before after more e b) begins
+
+-- the same at the exit of a `?`
+pub refused_here : {T E : Type 0} (r : Result T E) (out before after more : List ℕ) → before ≡ out ++ more
+    → Begins before after → OnErr r (Begins out after)
+refused_here (Ok _) out before after more e begins = tt
+refused_here (Err _) out before after more e begins = begins_on out before after more e begins
 
 -- one more element of a row
 flat_more : {A : Type 0} (f : A → List ℕ) (xs : List A) (i : ℕ) (d : A) → i < length xs

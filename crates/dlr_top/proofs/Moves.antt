@@ -1,8 +1,8 @@
 -- How the bytes of a source and of a sink go on from call to call.
-use Rattle.std.proofs.Common.{◌≡◌, ℕ, ◌+◌, ◌≤◌, ◌⊎◌, inl, inr, IfSome, List, [], ◌++◌, length, take, drop, Option, None, Some, refl, sym, ◌∙◌, ap, subst, append_assoc, take-append-drop}
+use Rattle.std.proofs.Common.{◌≡◌, ◌≢◌, ℕ, ◌+◌, ◌<◌, ◌≤◌, ◌⊎◌, inl, inr, IfSome, List, [], ◌++◌, length, take, drop, Option, None, Some, refl, sym, ◌∙◌, ap, subst, append_assoc, take-append-drop, length-drop, arith}
 use Rattle.std.proofs.lemmas.List.{append-nil, take_at, take_all, drop_at, drop_all, drop-drop}
 use Rattle.std.proofs.Math.Seq.{take-add}
-use Rattle.dlr_top.specs.Devices.{TakesFirst, IsAtEnd, IsReadThrough, Adds, AddsFirst}
+use Rattle.dlr_top.specs.Devices.{TakesFirst, IsAtEnd, IsReadThrough, Adds, AddsFirst, AddsProperFront}
 
 -- a copied piece stands at the front of what it was copied into
 pub piece_moves : (bytes copied room : List ℕ) (at count : ℕ) → copied ≡ take count (drop at bytes) → length copied ≡ count → drop at bytes ≡ take count (copied ++ room) ++ drop (at + count) bytes
@@ -76,5 +76,13 @@ adds_on before mid after text at n one two =
     let P : List ℕ → Type 0 = λ l. Adds before after l in
     subst P (sym (take-add at n text)) (adds_both before mid after (take at text) (take n (drop at text)) one two)
 
-pub adds_front : (before after : Option (List ℕ)) (text : List ℕ) (at : ℕ) → Adds before after (take at text) → AddsFirst before after text
-adds_front before after text at adds = (take at text, drop at text, (sym (take-append-drop at text), adds))
+something_left : (text : List ℕ) (at : ℕ) → at < length text → drop at text ≢ []
+something_left text at inside none = absurd (omega (arith, length-drop at text, ap length none))
+
+-- what was added ends before the text does
+pub adds_front : (before after : Option (List ℕ)) (text : List ℕ) (at : ℕ) → at < length text → Adds before after (take at text) → AddsProperFront before after text
+adds_front before after text at inside adds =
+    (take at text, drop at text, (sym (take-append-drop at text), (something_left text at inside, adds)))
+
+pub first_of_proper : (before after : Option (List ℕ)) (text : List ℕ) → AddsProperFront before after text → AddsFirst before after text
+first_of_proper before after text proper = (proper.0, proper.1, (proper.2.0, proper.2.1.1))

@@ -203,7 +203,8 @@ serial_more program t (e ∷ ends) end store middle final so_far last = (
   so_far.0,
   so_far.1,
   so_far.2,
-  serial_more program (t + 1) ends end _ middle final so_far.3
+  so_far.3,
+  serial_more program (t + 1) ends end _ middle final so_far.4
       (subst (λ n. AreSerial program n (end ∷ []) middle final) (let f : t + suc (length ends) ≡ (t + 1) + length ends = omega arith in f) last),
 )
 
@@ -236,7 +237,7 @@ one_more_run program task ends end old new old_drawn new_drawn so_far ran legal 
       ];
       serial = serial_more program 0 ends end (none_yet (shared_count program)) (store_of program old old_drawn) (store_of program new new_drawn) so_far.serial
           (subst (λ n. AreSerial program n (end ∷ []) (store_of program old old_drawn) (store_of program new new_drawn)) (let e : task ≡ 0 + length ends = omega (arith, so_far.count) in e)
-          (alike.lines ∙ ran.lines, ap ended_of alike.came ∙ ran.ended, omega (arith, ap (λ (s : Journals). s.next) leaves, ap length more, length-append old_drawn end.drawn), leaves));
+          (alike.lines ∙ ran.lines, ap ended_of alike.came ∙ ran.ended, numbers, omega (arith, ap (λ (s : Journals). s.next) leaves, ap length more, length-append old_drawn end.drawn), leaves));
     }
 
 owned_all : (program : Program) (es : List Entry) → AllByRecursion (IsEarly (length (script_of program).tasks)) es → AllByRecursion (IsOwned program) es

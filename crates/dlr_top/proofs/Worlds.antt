@@ -1,5 +1,5 @@
 -- The objects of a world and their journals, from operation to operation.
-use Rattle.std.proofs.Common.{◌≡◌, ◌≢◌, ℕ, zero, suc, ◌+◌, ◌<◌, Bool, true, false, if◌then◌else◌, nat_eq, List, [], ◌∷◌, ◌++◌, length, map, get_or, slice_get, Option, Some, Result, Ok, Err, IfOk, OnErr, refl, sym, ◌∙◌, ap, subst, arith, length-append}
+use Rattle.std.proofs.Common.{◌≡◌, ◌≢◌, ℕ, zero, suc, ◌+◌, ◌<◌, Bool, true, false, if◌then◌else◌, nat_eq, List, [], ◌∷◌, ◌++◌, length, map, get_or, slice_get, Option, Some, Result, Ok, Err, IfOk, IfSome, OnErr, refl, sym, ◌∙◌, ap, subst, arith, length-append}
 use Rattle.std.proofs.lemmas.Bool.{eqb-true}
 use Rattle.std.proofs.lemmas.Bool.Decides.{nat_tests}
 use Rattle.std.proofs.lemmas.Grind.{get_or-set_at}
@@ -11,41 +11,47 @@ use Rattle.dyn_value.specs.declared.outcome.Outcome.{Outcome}
 use Rattle.dyn_value.specs.declared.value.Value.{Value}
 use Rattle.dyn_value.specs.Proper.{IsProperIn}
 use Rattle.standard_binders.specs.declared.binder.Binder.{Binder}
-use Rattle.object_model.specs.Journals.{IsLegal, members_after, entry_step, step_by}
+use Rattle.object_model.specs.Journals.{IsLegal, members_after, entry_step, left_by, outcome_by}
 use Rattle.object_model.specs.Members.{Members}
-use Rattle.object_model.specs.Steps.{IsAnswerIn, OnObject, Step, if_on_members, object_step, on_object}
+use Rattle.object_model.specs.Plain.{IsAnswerIn}
+use Rattle.object_model.specs.Steps.{OnObject, Step, if_on_members, object_step, on_object}
 use Rattle.standard_binders.specs.Binders.{is_on_members}
 use Rattle.dyn_value.specs.declared.value.Value.TheVariants as value
 use Rattle.std.proofs.lemmas.Option.{slice_get-get_or}
 use Rattle.object_model.proofs.JournalLaws.{after_push, legal_push}
 use Rattle.object_model.proofs.ProperMembers.{answer_stepped, proper_stepped}
 use Rattle.std.proofs.Props.{props}
-use Rattle.std.specs.Prelude.{is_ok}
+use Rattle.std.specs.Prelude.{is_ok, IsSome}
+use Rattle.std.specs.Option.{option_and_then}
+use Rattle.standard_binders.specs.Binders.{operand_count_of}
+use Rattle.object_model.specs.Accesses.{access_of}
+use Rattle.object_model.proofs.Suits.{suits}
 use Rattle.std.proofs.Math.Logic.{∥∥₁_elim}
 use Rattle.dyn_value.specs.declared.outcome.Outcome.TheVariants as outcome
 use Rattle.program_eval.specs.Stores.{updated}
 use Rattle.script_front.specs.declared.program.Program.{Program}
 use Rattle.script_front.specs.Programs.{binders_of}
-use Rattle.dlr_top.specs.declared.plain_object.EntryHead.{EntryHead}
+use Rattle.dlr_top.specs.declared.run.plain_object.EntryHead.{EntryHead}
 use Rattle.dlr_top.specs.Lawful.{journal_at, limit_of}
 use Rattle.dlr_top.specs.Recorded.{Recorded, untouched, entry_by, recorded_step, journals_in, IsKept, AreKept}
 
 -- the step of the entry that is added
-added_step : (program : Program) (r : Recorded) (head : EntryHead) (b : Binder) (operands : List Value) → slice_get (binders_of program) head.binder ≡ Some b → IsKept program r
-    → object_step r.members b operands
-    ≡ entry_step (binders_of program) (members_after (binders_of program) [] r.journal) (entry_by head operands (object_step r.members b operands).outcome)
-added_step program r head b operands is kept =
+added_step : (program : Program) (r : Recorded) (head : EntryHead) (b : Binder) (operands : List Value) (o : Outcome) → slice_get (binders_of program) head.binder ≡ Some b → IsKept program r
+    → object_step r.members b operands ≡ entry_step (binders_of program) (members_after (binders_of program) [] r.journal) (entry_by head operands o)
+added_step program r head b operands o is kept =
     ap (λ (ms : Members). object_step ms b operands) kept.members
-    ∙ ap (λ (o : Option Binder). step_by o (members_after (binders_of program) [] r.journal) operands) (sym is)
+    ∙ ap (λ (x : Option Binder). option_and_then (λ b. object_step (members_after (binders_of program) [] r.journal) b operands) x) (sym is)
 
-pub kept_step : (program : Program) (r : Recorded) (head : EntryHead) (b : Binder) (operands : List Value) → slice_get (binders_of program) head.binder ≡ Some b
-    → AllByRecursion (IsProperIn 0 (limit_of program)) operands → IsKept program r → IsKept program (recorded_step r head b operands)
-kept_step program r head b operands is proper kept =
-    let e : Entry = entry_by head operands (object_step r.members b operands).outcome in
-    let step = added_step program r head b operands is kept in
+pub kept_step : (program : Program) (r : Recorded) (head : EntryHead) (b : Binder) (operands : List Value) (o : Outcome) → slice_get (binders_of program) head.binder ≡ Some b
+    → outcome_by (object_step r.members b operands) ≡ Some o
+    → AllByRecursion (IsProperIn 0 (limit_of program)) operands → IsKept program r → IsKept program (recorded_step r head b operands o)
+kept_step program r head b operands o is gives proper kept =
+    let e : Entry = entry_by head operands o in
+    let after = members_after (binders_of program) [] r.journal in
+    let step = added_step program r head b operands o is kept in
     record {
-      legal = legal_push (binders_of program) [] r.journal e kept.legal (ap (λ (s : Step). s.outcome) step);
-      members = ap (λ (s : Step). s.members) step ∙ sym (after_push (binders_of program) [] r.journal e);
+      legal = legal_push (binders_of program) [] r.journal e kept.legal (ap outcome_by (sym step) ∙ gives);
+      members = ap (left_by r.members) step ∙ ap (λ (ms : Members). left_by ms (entry_step (binders_of program) after e)) kept.members ∙ sym (after_push (binders_of program) [] r.journal e);
       proper = proper_stepped 0 (limit_of program) r.members b operands kept.proper proper;
     }
 
@@ -92,15 +98,28 @@ pub target_proper : (functions objects : ℕ) (b : Binder) (operands : List Valu
 target_proper functions objects b (value.Obj o ∷ rest) x is proper = target_of functions objects (is_on_members b) o rest x is proper
 target_proper functions objects b _ x is proper = cc
 
+suited_of : (b : Binder) (on : Bool) (o : ℕ) (rest : List Value) (x : OnObject) → is_on_members b ≡ on → if_on_members on (record { object = o; operands = rest }) ≡ Some x
+    → length (value.Obj o ∷ rest) ≡ operand_count_of b → IsSome (access_of b x.operands)
+suited_of b true o rest x on is count =
+    let all : length rest + 1 ≡ operand_count_of b = omega (arith, count) in
+    subst (λ (y : OnObject). IsSome (access_of b y.operands)) (same_target (record { object = o; operands = rest }) x is) (suits b rest on all)
+suited_of b false o rest x on is count = cc
+
+-- and its operands suit the binder, where they are as many as it has
+pub target_suits : (b : Binder) (operands : List Value) (x : OnObject) → on_object b operands ≡ Some x → length operands ≡ operand_count_of b → IsSome (access_of b x.operands)
+target_suits b (value.Obj o ∷ rest) x is count = suited_of b (is_on_members b) o rest x refl is count
+target_suits b _ x is count = cc
+
 -- an element that is there, by another default
 pub same_element : (rs : List Recorded) (i : ℕ) (r : Recorded) → i < length rs → r ≡ get_or rs i r → r ≡ get_or rs i untouched
 same_element rs i r inside is = is ∙ same_some (get_or rs i r) (get_or rs i untouched) (sym (slice_get-get_or rs i r inside) ∙ slice_get-get_or rs i untouched inside)
 
 pub kept_either : {E : Type 0} (program : Program) (result : Result Outcome E) (old new : Recorded) (head : EntryHead) (b : Binder) (operands : List Value)
-    → IfOk result (λ o. new ≡ recorded_step old head b operands) → OnErr result (new ≡ old)
+    → IfOk result (λ o. outcome_by (object_step old.members b operands) ≡ Some o)
+    → IfOk result (λ o. new ≡ recorded_step old head b operands o) → OnErr result (new ≡ old)
     → slice_get (binders_of program) head.binder ≡ Some b → AllByRecursion (IsProperIn 0 (limit_of program)) operands → IsKept program old → IsKept program new
-kept_either program (Ok o) old new head b operands ok err is proper kept = subst (IsKept program) (sym ok) (kept_step program old head b operands is proper kept)
-kept_either program (Err e) old new head b operands ok err is proper kept = subst (IsKept program) (sym err) kept
+kept_either program (Ok o) old new head b operands gives ok err is proper kept = subst (IsKept program) (sym ok) (kept_step program old head b operands o is gives proper kept)
+kept_either program (Err e) old new head b operands gives ok err is proper kept = subst (IsKept program) (sym err) kept
 
 proper_prop : (functions objects : ℕ) (v : Value) → IsProp (IsProperIn functions objects v)
 proper_prop functions objects value.Nil = hlevel props
@@ -120,14 +139,14 @@ answers_prop : {E : Type 0} (functions objects : ℕ) (r : Result Outcome E) →
 answers_prop functions objects (Ok o) = answer_prop functions objects o
 answers_prop functions objects (Err e) = hlevel props
 
-answered_by : {E : Type 0} (program : Program) (r : Result Outcome E) (old : Recorded) (b : Binder) (operands : List Value) → IfOk r (λ o. o ≡ (object_step old.members b operands).outcome) → IsKept program old
+answered_by : {E : Type 0} (program : Program) (r : Result Outcome E) (old : Recorded) (b : Binder) (operands : List Value) → IfOk r (λ o. outcome_by (object_step old.members b operands) ≡ Some o) → IsKept program old
     → IfOk r (IsAnswerIn 0 (limit_of program))
-answered_by program (Ok o) old b operands is kept = subst (IsAnswerIn 0 (limit_of program)) (sym is) (answer_stepped 0 (limit_of program) old.members b operands kept.proper)
+answered_by program (Ok o) old b operands is kept = subst (λ (x : Option Outcome). IfSome x (IsAnswerIn 0 (limit_of program))) is (answer_stepped 0 (limit_of program) old.members b operands kept.proper)
 answered_by program (Err e) old b operands is kept = tt
 
 -- what an operation on a kept object answers is an answer of the run
 pub answered_in : {E : Type 0} (program : Program) (rs : List Recorded) (i : ℕ) (r : Result Outcome E) (old : Recorded) (b : Binder) (operands : List Value)
-    → ∥ AreKept program rs ∥₁ → old ≡ get_or rs i untouched → IfOk r (λ o. o ≡ (object_step old.members b operands).outcome) → IfOk r (IsAnswerIn 0 (limit_of program))
+    → ∥ AreKept program rs ∥₁ → old ≡ get_or rs i untouched → IfOk r (λ o. outcome_by (object_step old.members b operands) ≡ Some o) → IfOk r (IsAnswerIn 0 (limit_of program))
 answered_in program rs i r old b operands kept at is =
     ∥∥₁_elim kept (answers_prop 0 (limit_of program) r) (λ k. answered_by program r old b operands is (subst (IsKept program) (sym at) (k i)))
 
@@ -182,12 +201,12 @@ pub numbers_after : {E : Type 0} (first : ℕ) (old new : List ℕ) (n : ℕ) (r
 numbers_after first old new n (Ok _) are is grown = one_more_number first old new n are is grown
 numbers_after first old new n (Err _) are is same = subst (λ ns. ns ≡ range_with_len first (length ns)) (sym same) are
 
-outcome_prop : (a b : Outcome) → IsProp (a ≡ b)
+outcome_prop : (a b : Option Outcome) → IsProp (a ≡ b)
 outcome_prop a b = hlevel props
 
 legal_prop : (binders : List Binder) (ms : Members) (es : List Entry) → IsProp (IsLegal binders ms es)
 legal_prop binders ms [] = hlevel props
-legal_prop binders ms (e ∷ es) = λ p q i. (outcome_prop e.outcome (entry_step binders ms e).outcome p.0 q.0 i, legal_prop binders (entry_step binders ms e).members es p.1 q.1 i)
+legal_prop binders ms (e ∷ es) = λ p q i. (outcome_prop (outcome_by (entry_step binders ms e)) (Some e.outcome) p.0 q.0 i, legal_prop binders (left_by ms (entry_step binders ms e)) es p.1 q.1 i)
 
 pub kept_legal : (program : Program) (rs : List Recorded) → ∥ AreKept program rs ∥₁ → (object : ℕ) → IsLegal (binders_of program) [] (journals_in rs object)
 kept_legal program rs kept object = ∥∥₁_elim kept (legal_prop (binders_of program) [] (journals_in rs object)) (λ k. (k object).legal)

@@ -1,6 +1,6 @@
 -- What the sink in memory shows.
 use Rattle.std.specs.Prelude.{ℕ, List}
-use Rattle.dlr_top.specs.declared.clean_sink.CleanSink.{CleanSink}
+use Rattle.dlr_top.specs.declared.devices.clean_sink.CleanSink.{CleanSink}
 
 -- the bytes that it took
 abbrev pub taken_bytes : CleanSink → List ℕ

@@ -1,5 +1,5 @@
 -- What happens to sources and sinks. One that does not tell its bytes tells nothing of them before or after.
-use Rattle.std.specs.Prelude.{◌≡◌, ℕ, ◌+◌, ◌-◌, ◌^◌, ◌≤◌, min, List, [], ◌++◌, drop, Option, None, Some}
+use Rattle.std.specs.Prelude.{◌≡◌, ◌≢◌, ℕ, ◌+◌, ◌-◌, ◌^◌, ◌≤◌, min, List, [], ◌++◌, drop, Option, None, Some}
 
 -- the count of faults rose; one at the end of its type counts as risen
 abbrev pub Rose : ℕ → ℕ → Type 0
@@ -28,3 +28,8 @@ Adds (Some had) after text = after ≡ Some (had ++ text)
 -- a front of this text was added
 abbrev pub AddsFirst : Option (List ℕ) → Option (List ℕ) → List ℕ → Type 0
 AddsFirst before after text = (front rest : List ℕ) × ((text ≡ front ++ rest) × Adds before after front)
+
+-- a front of this text was added, and something of the text was not
+abbrev pub AddsProperFront : Option (List ℕ) → Option (List ℕ) → List ℕ → Type 0
+AddsProperFront before after text =
+    (front rest : List ℕ) × ((text ≡ front ++ rest) × ((rest ≢ []) × Adds before after front))

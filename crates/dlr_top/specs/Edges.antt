@@ -1,7 +1,7 @@
 -- What the source and the sink over a reader and a writer keep.
 use Rattle.std.specs.Prelude.{ℕ}
-use Rattle.dlr_top.specs.declared.input_source.InputSource.{InputSource}
-use Rattle.dlr_top.specs.declared.output_sink.OutputSink.{OutputSink}
+use Rattle.dlr_top.specs.declared.devices.input_source.InputSource.{InputSource}
+use Rattle.dlr_top.specs.declared.devices.output_sink.OutputSink.{OutputSink}
 
 -- the reader, as it is left
 abbrev pub reader_of : {R : Type 0} → InputSource R → R

@@ -65,11 +65,13 @@ pub record IsLawful (program : Program) (report : Report) : Type 0 where
   pub rising : (task : ℕ) (end : TaskEnd) → slice_get report.tasks task ≡ Some end → IsStrictlyIncreasing end.drawn
 
 -- The tasks from this number on have these ends, one after the other over one store of journals, and leave it so.
+-- Each draws the numbers that are next.
 abbrev pub AreSerial : Program → ℕ → List TaskEnd → Journals → Journals → Type 0
 AreSerial program task [] store final = store ≡ final
 AreSerial program task (end ∷ ends) store final =
     let run = run_over (journal_objects (teller_of program 0 task)) (sites_of program) (acts_of program task) store in
-    (run.lines ≡ end.lines) × (ended_of run.came ≡ Some end.ended) × (run.store.next ≡ store.next + length end.drawn)
+    (run.lines ≡ end.lines) × (ended_of run.came ≡ Some end.ended)
+    × (end.drawn ≡ range_with_len store.next (length end.drawn)) × (run.store.next ≡ store.next + length end.drawn)
     × AreSerial program (task + 1) ends run.store final
 
 -- The tasks run one after the other, in script order, over journals that begin empty. So the report is a function

@@ -4,13 +4,13 @@ use Rattle.dyn_value.specs.declared.entry.Entry.{Entry}
 use Rattle.dyn_value.specs.declared.outcome.Outcome.{Outcome}
 use Rattle.dyn_value.specs.declared.value.Value.{Value}
 use Rattle.standard_binders.specs.declared.binder.Binder.{Binder}
-use Rattle.object_model.specs.Journals.{IsLegal, members_after}
+use Rattle.object_model.specs.Journals.{IsLegal, left_by, members_after}
 use Rattle.object_model.specs.Members.{Members, AreProperIn}
 use Rattle.object_model.specs.Steps.{object_step}
 use Rattle.script_front.specs.declared.program.Program.{Program}
 use Rattle.script_front.specs.Programs.{binders_of}
 use Rattle.dlr_top.specs.Lawful.{limit_of}
-use Rattle.dlr_top.specs.declared.plain_object.EntryHead.{EntryHead}
+use Rattle.dlr_top.specs.declared.run.plain_object.EntryHead.{EntryHead}
 
 -- an object's members, and the entries of the operations on it
 pub record Recorded : Type 0 where
@@ -20,11 +20,11 @@ pub record Recorded : Type 0 where
 abbrev pub entry_by : EntryHead → List Value → Outcome → Entry
 entry_by head operands o = record { pass = 0; task = head.task; binder = head.binder; operands = operands; outcome = o }
 
--- the object after an operation
-abbrev pub recorded_step : Recorded → EntryHead → Binder → List Value → Recorded
-recorded_step r head binder operands = record {
-  members = (object_step r.members binder operands).members;
-  journal = r.journal ++ entry_by head operands (object_step r.members binder operands).outcome ∷ [];
+-- the object after an operation that answered this
+abbrev pub recorded_step : Recorded → EntryHead → Binder → List Value → Outcome → Recorded
+recorded_step r head binder operands o = record {
+  members = left_by r.members (object_step r.members binder operands);
+  journal = r.journal ++ entry_by head operands o ∷ [];
 }
 
 -- an object on which nothing was done

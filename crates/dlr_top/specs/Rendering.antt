@@ -1,6 +1,7 @@
 -- What is written, in characters.
-use Rattle.std.specs.Prelude.{ℕ, ◌+◌, min, Bool, true, false, List, [], ◌∷◌, ◌++◌, length, slice_get, Option, None, Some, codes}
+use Rattle.std.specs.Prelude.{◌≡◌, ℕ, ◌+◌, min, Bool, true, false, List, [], ◌∷◌, ◌++◌, length, slice_get, Option, None, Some, codes, encode_utf8_all}
 use Rattle.std.specs.Fmt.{decimal}
+use Rattle.std.specs.Global.{Vec}
 use Rattle.std.specs.List.{flat_map, range_with_len}
 use Rattle.dyn_value.specs.declared.entry.Entry.{Entry}
 use Rattle.dyn_value.specs.declared.outcome.Outcome.{Outcome}
@@ -9,9 +10,8 @@ use Rattle.dyn_value.specs.declared.value.Value.{Value}
 use Rattle.dyn_value.specs.Texts.{fault_text, quoted, quoted_text}
 use Rattle.standard_binders.specs.declared.binder.Binder.{Binder}
 use Rattle.standard_binders.specs.Binders.{binder_text}
-use Rattle.object_model.specs.declared.member.Member.{Member}
 use Rattle.object_model.specs.Journals.{members_after}
-use Rattle.object_model.specs.Members.{Members}
+use Rattle.object_model.specs.Members.{Member, Members}
 use Rattle.program_eval.specs.declared.ended.Ended.{Ended}
 use Rattle.program_eval.specs.declared.ended.Ended.TheVariants.{Done, Faulted}
 use Rattle.script_front.specs.declared.program.Program.{Program}
@@ -21,6 +21,10 @@ use Rattle.dlr_top.specs.declared.report.TaskEnd.{TaskEnd}
 use Rattle.dlr_top.specs.declared.report.Report.{Report}
 use Rattle.dlr_top.specs.declared.words.Options.{Options}
 use Rattle.dlr_top.specs.Lawful.{limit_of, all_drawn, journal_at}
+
+-- the text stands behind what was there, in UTF-8
+abbrev pub AddsText : Vec ℕ → Vec ℕ → List ℕ → Type 0
+AddsText old new text = new.items ≡ old.items ++ encode_utf8_all text
 
 abbrev pub usage_text : List ℕ
 usage_text = codes "usage: dlr run [--serial] [--journal] [--stats] [--rules] [--turns N] [--objects N] | check | drill SEED\n"
@@ -97,6 +101,10 @@ abbrev pub journals_if : Bool → Program → Report → List ℕ
 journals_if true program report = journals_text program report
 journals_if false program report = []
 
+-- the lines and faults of the report's tasks
+abbrev pub lines_text : Program → Report → List ℕ
+lines_text program report = tasks_text (script_of program).tasks report.tasks
+
 -- the tasks' lines, and the journals where they were asked for
 abbrev pub report_text : Program → Options → Report → List ℕ
-report_text program options report = tasks_text (script_of program).tasks report.tasks ++ journals_if options.journal program report
+report_text program options report = lines_text program report ++ journals_if options.journal program report

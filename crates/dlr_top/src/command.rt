@@ -6,13 +6,11 @@ ghost use Rattle.dlr_top.specs.Devices.{Rose, Adds, AddsFirst, IsReadThrough};
 ghost use Rattle.dlr_top.specs.Headline.{Reports};
 ghost use Rattle.dlr_top.specs.Rendering.{usage_text, refusal_text};
 
-use crate::execution::execute;
+use crate::devices::{Sink, Source, Unwritten, deliver};
 use crate::gate::Gate;
 use crate::loading::{Unloaded, load};
-use crate::output::{Unwritten, deliver};
 use crate::report::Report;
-use crate::sink::Sink;
-use crate::source::Source;
+use crate::run::execute;
 use crate::status;
 use crate::words::read_words;
 use dyn_value::DynText;
@@ -59,7 +57,7 @@ impl TopOutcome {
 }
 
 /// The command: its words, a source that the script is read from, and a sink that the text is written to.
-pub fn top<R: Threads + Wait, S: Source, K: Sink, G: Gate>(
+pub fn top<R: Threads + Wait + Sync, S: Source, K: Sink, G: Gate>(
     rt: &R,
     alloc: Global,
     words: &[DynText],

@@ -4,8 +4,7 @@ ghost use Rattle.script_front.specs.Programs.{script_of};
 ghost use Rattle.script_front.specs.Script.{IsScript};
 ghost use Rattle.dlr_top.specs.Devices.{Rose, IsReadThrough};
 
-use crate::intake::{Unread, read_all};
-use crate::source::Source;
+use crate::devices::{Source, Unread, read_all};
 use script_front::{Program, ReadFault, ScriptRefused, read};
 use std::alloc::Global;
 

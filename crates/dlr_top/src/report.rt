@@ -1,5 +1,13 @@
+//! What a run came to, and its text.
+
+mod entries;
+mod journals;
+mod rendering;
+mod texts;
+
 use dyn_value::{DynText, Entry};
 use program_eval::Ended;
+pub use rendering::render;
 use sqlite_items::Items;
 
 /// How a task ended, what it printed, and the numbers that it drew for new objects.

@@ -4,7 +4,9 @@ use dyn_value::DynText;
 use std::alloc::{AllocError, Global};
 use std::io;
 use std::io::{ErrorKind, Read, Write};
+use std::sync::Wait;
 use std::test::Fail;
+use std::thread::Threads;
 
 const USAGE: &str =
     "usage: dlr run [--serial] [--journal] [--stats] [--rules] [--turns N] [--objects N] | check | drill SEED\n";
@@ -106,14 +108,21 @@ fn slow_sink(alloc: Global, fails_at: u64) -> SlowSink {
     }
 }
 
-fn words(alloc: Global, texts: &[&str]) -> Result<Vec<DynText>, AllocError> {
+// How the command ended with these words.
+fn command<R: Threads + Wait + Sync, S: Source, K: Sink>(
+    rt: &R,
+    alloc: Global,
+    texts: &[&str],
+    source: &mut S,
+    sink: &mut K,
+) -> Result<TopOutcome, AllocError> {
     let mut words = Vec::new(alloc);
     for text in texts {
         if let Some(word) = DynText::from_str(alloc, text)? {
             words.push(word)?;
         }
     }
-    Ok(words)
+    Ok(top(rt, alloc, words.as_slice(), source, sink, &OpenGate))
 }
 
 #[test]
@@ -134,17 +143,9 @@ fn words_that_are_no_command_give_the_usage_line(rt: HostRuntime) -> Result<(), 
         (&["Run"], 0, ""),
     ];
     for (texts, fails_at, want) in cases {
-        let words = words(alloc, texts)?;
         let mut source = slow_source(alloc, "task a { print 1; }", 0)?;
         let mut sink = slow_sink(alloc, fails_at);
-        let outcome = top(
-            &rt,
-            alloc,
-            words.as_slice(),
-            &mut source,
-            &mut sink,
-            &OpenGate,
-        );
+        let outcome = command(&rt, alloc, texts, &mut source, &mut sink)?;
         assert_eq!(rt; outcome.status, WORDS_REFUSED);
         assert!(rt; outcome.report.is_none());
         assert_eq!(rt; sink.clean.bytes(), want.as_bytes());
@@ -157,17 +158,9 @@ fn words_that_are_no_command_give_the_usage_line(rt: HostRuntime) -> Result<(), 
 fn a_source_that_fails_leaves_the_sink_as_it_was(rt: HostRuntime) -> Result<(), Fail> {
     let alloc = rt.alloc();
     for fails_at in [0, 1, 4, 9] {
-        let words = words(alloc, &["run"])?;
         let mut source = slow_source(alloc, "task a { print (1 + 2); }", fails_at)?;
         let mut sink = slow_sink(alloc, NEVER);
-        let outcome = top(
-            &rt,
-            alloc,
-            words.as_slice(),
-            &mut source,
-            &mut sink,
-            &OpenGate,
-        );
+        let outcome = command(&rt, alloc, &["run"], &mut source, &mut sink)?;
         assert_eq!(rt; outcome.status, SOURCE_FAILED, "at {fails_at}");
         assert!(rt; outcome.report.is_none());
         assert_eq!(rt; sink.clean.bytes(), b"".as_slice());
@@ -236,17 +229,9 @@ fn an_error_of_a_reader_or_a_writer_is_a_failure(rt: HostRuntime) -> Result<(), 
 fn a_reader_and_a_writer_serve_the_command(rt: HostRuntime) -> Result<(), Fail> {
     let alloc = rt.alloc();
     let mut written: Vec<u8> = Vec::new(alloc);
-    let words = words(alloc, &["drill"])?;
     let mut source = InputSource::new(b"task a { }".as_slice());
     let mut sink = OutputSink::new(&mut written);
-    let outcome = top(
-        &rt,
-        alloc,
-        words.as_slice(),
-        &mut source,
-        &mut sink,
-        &OpenGate,
-    );
+    let outcome = command(&rt, alloc, &["drill"], &mut source, &mut sink)?;
     assert_eq!(rt; outcome.status, WORDS_REFUSED);
     assert_eq!(rt; written.as_slice(), USAGE.as_bytes());
     Ok(())
@@ -285,17 +270,9 @@ fn journals_are_written_where_they_are_asked_for(rt: HostRuntime) -> Result<(), 
         (&["run", "--serial", "--journal"], JOURNALS),
     ];
     for (texts, journals) in cases {
-        let words = words(alloc, texts)?;
         let mut source = slow_source(alloc, OBJECTS, NEVER)?;
         let mut sink = slow_sink(alloc, NEVER);
-        let outcome = top(
-            &rt,
-            alloc,
-            words.as_slice(),
-            &mut source,
-            &mut sink,
-            &OpenGate,
-        );
+        let outcome = command(&rt, alloc, texts, &mut source, &mut sink)?;
         let mut want = Vec::from_slice(alloc, LINES.as_bytes())?;
         want.extend_from_slice(journals.as_bytes())?;
         assert_eq!(rt; outcome.status, TASK_FAULTED);
@@ -314,22 +291,33 @@ fn a_sink_that_fails_keeps_a_front_of_the_text(rt: HostRuntime) -> Result<(), Fa
         (2, "a: ", SINK_FAILED),
         (NEVER, "a: 3\n", ALL_DONE),
     ] {
-        let words = words(alloc, &["run"])?;
         let mut source = slow_source(alloc, "task a { print (1 + 2); }", NEVER)?;
         let mut sink = slow_sink(alloc, fails_at);
-        let outcome = top(
-            &rt,
-            alloc,
-            words.as_slice(),
-            &mut source,
-            &mut sink,
-            &OpenGate,
-        );
+        let outcome = command(&rt, alloc, &["run"], &mut source, &mut sink)?;
         assert_eq!(rt; outcome.status, status, "at {fails_at}");
         assert!(rt; outcome.report.is_some());
         assert_eq!(rt; sink.clean.bytes(), want.as_bytes());
         assert_eq!(rt; sink.reserved, 1);
         assert_eq!(rt; sink.short, 0);
+    }
+    Ok(())
+}
+
+#[test]
+fn the_first_cause_decides(rt: HostRuntime) -> Result<(), Fail> {
+    let alloc = rt.alloc();
+    for (word, script, source_fails_at, sink_fails_at, status) in [
+        ("ran", "task a {", 0, 0, WORDS_REFUSED),
+        ("run", "task a {", 0, 0, SOURCE_FAILED),
+        ("run", "task a { }", 0, 0, SOURCE_FAILED),
+        ("run", "task a {", NEVER, 0, REFUSED),
+        ("run", "task a { print nil.x; }", NEVER, 0, SINK_FAILED),
+        ("run", "task a { print nil.x; }", NEVER, NEVER, TASK_FAULTED),
+    ] {
+        let mut source = slow_source(alloc, script, source_fails_at)?;
+        let mut sink = slow_sink(alloc, sink_fails_at);
+        let outcome = command(&rt, alloc, &[word], &mut source, &mut sink)?;
+        assert_eq!(rt; outcome.status, status, "{word}, {script}");
     }
     Ok(())
 }

@@ -8,7 +8,7 @@ use Rattle.expando_class.specs.Shown.{number_shown, names_shown, IsShownBy}
 abbrev pub number_of : ClassRef → ℕ
 number_of class = number_shown class.token
 
--- the names of the class, in the order in which they were added
+-- the names of the class, each as its characters, in the order in which they were added
 abbrev pub names_of : ClassRef → List (List ℕ)
 names_of class = names_shown class.token
 

@@ -1,18 +1,21 @@
 -- Journals: one part after another, and the members that they leave.
-use Rattle.std.proofs.Common.{◌≡◌, ℕ, List, [], ◌∷◌, ◌++◌, Option, None, Some, refl, slice_get}
+use Rattle.std.proofs.Common.{◌≡◌, ℕ, List, [], ◌∷◌, ◌++◌, Option, None, Some, refl, ap, slice_get}
 use Rattle.std.specs.List.{AllByRecursion}
-use Rattle.std.specs.Option.{option_and_then}
-use Rattle.std.specs.Prelude.{IfSome}
+use Rattle.std.specs.Option.{option_and_then, option_map}
+use Rattle.std.specs.Prelude.{IfSome, IsSome}
 use Rattle.dyn_value.specs.declared.entry.Entry.{Entry}
+use Rattle.dyn_value.specs.declared.outcome.Outcome.{Outcome}
 use Rattle.dyn_value.specs.declared.value.Value.{Value}
 use Rattle.dyn_value.specs.Proper.{IsProperIn}
 use Rattle.standard_binders.specs.declared.binder.Binder.{Binder}
+use Rattle.object_model.specs.Accesses.{Access, access_of}
 use Rattle.object_model.specs.Journals.{step_of, entry_step, left_by, outcome_by, members_after, IsLegal}
 use Rattle.object_model.specs.Members.{Members, AreMembers, AreProperIn}
 use Rattle.object_model.specs.Plain.{IsAnswerIn}
-use Rattle.object_model.specs.Steps.{object_step}
+use Rattle.object_model.specs.Steps.{object_step, step_by}
 use Rattle.object_model.proofs.MembersKept.{members_stepped}
 use Rattle.object_model.proofs.ProperMembers.{proper_stepped, answer_stepped}
+use Rattle.object_model.proofs.Suits.{Suits, has_suited}
 
 -- the members after two journals, one after the other
 pub after-append : (binders : List Binder) (ms : Members) (first next : List Entry) → members_after binders ms (first ++ next) ≡ members_after binders (members_after binders ms first) next
@@ -39,6 +42,22 @@ after_push binders ms journal e = after-append binders ms journal (e ∷ [])
 
 pub legal_push : (binders : List Binder) (ms : Members) (journal : List Entry) (e : Entry) → IsLegal binders ms journal → outcome_by (entry_step binders (members_after binders ms journal) e) ≡ Some e.outcome → IsLegal binders ms (journal ++ e ∷ [])
 legal_push binders ms journal e legal same = legal-append binders ms journal (e ∷ []) legal (same, tt)
+
+-- an entry that has an outcome is an operation: its number names a binder on members, and its operands suit that
+pub entry_suits : (binders : List Binder) (ms : Members) (e : Entry) (o : Outcome) → outcome_by (entry_step binders ms e) ≡ Some o → (b : Binder) × (slice_get binders e.binder ≡ Some b) × Suits b e.operands
+entry_suits binders ms e o given = by_binder (slice_get binders e.binder) refl given
+  where
+    some_access : (a : Option Access) → outcome_by (option_map (λ access. step_by access ms) a) ≡ Some o → IsSome a
+    some_access None given = cc
+    some_access (Some access) given = refl
+
+    by_binder : (r : Option Binder) → slice_get binders e.binder ≡ r → outcome_by (option_and_then (λ b. object_step ms b e.operands) r) ≡ Some o → (b : Binder) × (slice_get binders e.binder ≡ Some b) × Suits b e.operands
+    by_binder None is given = cc
+    by_binder (Some b) is given = (b, is, has_suited b e.operands (some_access (access_of b e.operands) given))
+
+-- the step by a number is that by its binder
+pub step_at : (binders : List Binder) (ms : Members) (number : ℕ) (operands : List Value) (b : Binder) → slice_get binders number ≡ Some b → step_of binders ms number operands ≡ object_step ms b operands
+step_at binders ms number operands b is = ap (option_and_then (λ x. object_step ms x operands)) is
 
 -- the step by a binder's number: it leaves members, keeps values proper, and answers a proper value or a fault
 

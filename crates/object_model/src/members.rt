@@ -56,8 +56,7 @@ impl ObjectMembers {
         self.members.as_slice()
     }
 
-    /// The outcome of an operation on the members, with the operands after the target; the members stay. The one
-    /// error is want of memory.
+    /// The outcome that [`ObjectMembers::step`] would answer; the members stay. The one error is want of memory.
     pub fn answer(&self, binder: &Binder, operands: &[Value]) -> Result<Outcome, AllocError>
         requires { IsSome (access_of binder.now operands.now) }
         ensures { IfOk result (λ o. outcome_by (object_step self.now binder.now operands.now) ≡ Some o) }
@@ -65,8 +64,8 @@ impl ObjectMembers {
         self.answer_to(Access::of(binder, operands))
     }
 
-    /// Makes an operation on the members, with the operands after the target, and answers its outcome. Where
-    /// memory is refused, the members stay.
+    /// Makes an operation on the members, with the operands after the target, and answers its outcome. Its binder is
+    /// one on members, and there are as many operands as that has. Where memory is refused, the members stay.
     ///
     /// - A read answers the member's value, or `NoMember`.
     /// - A write answers nil. It leaves a member in its place, adds one that is not there at the end, and

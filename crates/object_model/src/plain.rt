@@ -12,8 +12,8 @@ use dyn_value::{DynText, Fault, Outcome, Value, binary, convert, unary};
 use standard_binders::{Binder, CallInfo, FunTable};
 use std::alloc::{AllocError, Global};
 
-/// The outcome of an operation that looks at no object, by its operands, the target first. The one error is
-/// want of memory.
+/// The outcome of an operation that looks at no object, by its operands, the target first. There are as many operands
+/// as the binder has, and no function has more than [`FunTable::MOST_PARAMETERS`]. The one error is want of memory.
 ///
 /// - A text has the member `length`, the number of its characters. All other members of a value that is no
 ///   object give `NoMember`, also where they are written, deleted or called.

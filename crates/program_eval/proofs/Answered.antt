@@ -18,14 +18,15 @@ use Rattle.dyn_value.specs.Operations.{is_same}
 use Rattle.standard_binders.specs.declared.binder.Binder.{Binder}
 use Rattle.standard_binders.specs.declared.binder.Binder.TheVariants.{BinaryOperation}
 use Rattle.standard_binders.specs.Binders.{is_on_members}
-use Rattle.object_model.specs.Steps.{OnObject, on_object, if_on_members, plain_step}
+use Rattle.object_model.specs.Plain.{plain_step}
+use Rattle.object_model.specs.Steps.{OnObject, on_object, if_on_members}
 use Rattle.script_front.specs.declared.program.Program.{Program}
 use Rattle.script_front.specs.Programs.{script_of, sites_of}
 use Rattle.script_front.specs.Sites.{site_binders}
 use Rattle.program_eval.specs.declared.world.Asked.{Asked}
 use Rattle.program_eval.specs.Acts.{Local, State, Ending, Gives, Fails, Ends, Asks, Draws, fails, answered, asks, asks_on, counted}
 use Rattle.program_eval.specs.Runs.{made}
-use Rattle.program_eval.specs.Stores.{Left, left_objects, run_over, goes_on, draws_on, after_asked, outcome_on, first_answers, first_drawn, entry_of, updated, are_same, Begins, Teller}
+use Rattle.program_eval.specs.Stores.{no_functions, Left, left_objects, run_over, goes_on, draws_on, after_asked, outcome_on, first_answers, first_drawn, entry_of, updated, are_same, Begins, Teller}
 use Rattle.program_eval.specs.Walks.{Moment, Grows, IsLeft, CameTo, Comes, turn_cost}
 use Rattle.program_eval.specs.Worlds.{AreSame, Answers, AnswersOn, IsToldBy, teller_of}
 use Rattle.program_eval.proofs.Comings.{comes_ended}
@@ -97,8 +98,8 @@ asked_came : (program : Program) (pass task site : ℕ) (b : Binder) (operands :
     (outcome_on left_objects target (get_or (sites_of program) site 0) b operands left)) (ending_by o) s old new rest
 asked_came program pass task site b operands o s old new left rest None answers drawn lines asked is =
     let a : Asked = record { site = site; operands = operands } in
-    subst (λ p. CameTo (after_asked a (run_over left_objects (sites_of program) (answered s (plain_step b operands)) left)) (ending_by p) s old new rest) (sym answers.0)
-    (outcome_came (sites_of program) a (plain_step b operands) s old new left rest
+    subst (λ p. CameTo (after_asked a (run_over left_objects (sites_of program) (answered s (plain_step no_functions b operands)) left)) (ending_by p) s old new rest) (sym answers.0)
+    (outcome_came (sites_of program) a (plain_step no_functions b operands) s old new left rest
     (λ object. append_cancel_left (old.entries object) (left.entries object) (rest.entries object) (is.entries object ∙ ap (λ es. es ++ rest.entries object) (answers.1 object)))
     (append_cancel_left old.drawn left.drawn rest.drawn (is.drawn ∙ ap (λ ns. ns ++ rest.drawn) drawn)) lines asked)
 asked_came program pass task site b operands o s old new left rest (Some x) answers drawn lines asked is =

@@ -6,18 +6,20 @@ use Rattle.std.proofs.lemmas.Slice.Eq.{bytes_eq-Decides}
 use Rattle.dyn_value.specs.declared.value.Value.TheVariants as value
 use Rattle.dyn_value.specs.Operations.{is_same}
 use Rattle.std.specs.List.{AllByRecursion}
+use Rattle.std.specs.Option.{option_map}
 use Rattle.dyn_value.specs.declared.entry.Entry.{Entry}
 use Rattle.dyn_value.specs.declared.outcome.Outcome.{Outcome}
 use Rattle.dyn_value.specs.declared.value.Value.{Value}
 use Rattle.standard_binders.specs.declared.binder.Binder.{Binder}
 use Rattle.object_model.proofs.JournalLaws.{after-append}
-use Rattle.object_model.specs.Journals.{IsLegal, members_after, step_of}
+use Rattle.object_model.specs.Journals.{IsLegal, members_after, outcome_by, step_of}
 use Rattle.object_model.specs.Members.{Members}
-use Rattle.object_model.specs.Steps.{OnObject, on_object, plain_step}
+use Rattle.object_model.specs.Plain.{plain_step}
+use Rattle.object_model.specs.Steps.{Step, OnObject, on_object}
 use Rattle.program_eval.specs.declared.world.Asked.{Asked}
 use Rattle.program_eval.specs.Acts.{Act, Ends, Prints, Asks, Draws}
 use Rattle.program_eval.specs.Worlds.{IsToldBy}
-use Rattle.program_eval.specs.Stores.{Run, Left, Journals, Teller, entry_of, updated, are_same, first_answers, first_drawn, goes_on, draws_on, outcome_on, after_asked, left_objects, journal_objects, run_over}
+use Rattle.program_eval.specs.Stores.{no_functions, Run, Left, Journals, Teller, entry_of, updated, with_entry, are_same, first_answers, first_drawn, goes_on, draws_on, outcome_on, after_asked, left_objects, journal_objects, run_over}
 
 -- these numbers come one after the other, from this one on
 abbrev pub AreFrom : ℕ → List ℕ → Type 0
@@ -60,32 +62,36 @@ same_entry e f pass task binder operands outcome = λ i. record { pass = pass i;
 abbrev members_of : Teller → Journals → OnObject → Members
 members_of teller journals x = members_after teller.binders [] (journals.entries x.object)
 
--- what an operation on an object gives over the journals
-abbrev outcome_by : Teller → ℕ → OnObject → Journals → Outcome
-outcome_by teller number x journals = (step_of teller.binders (members_of teller journals x) number x.operands).outcome
-
 -- the object's first entry left is used up
 abbrev used : Left → OnObject → List Entry → Left
 used left x es = record { entries = updated left.entries x.object es; drawn = left.drawn }
 
--- the object's journal takes the entry
-abbrev taken : Journals → OnObject → Entry → Journals
-taken journals x e = record { entries = updated journals.entries x.object (journals.entries x.object ++ e ∷ []); next = journals.next }
+-- what is made of the outcome of a step, where the step has this one
+of_outcome : {A : Type 0} (step : Option Step) (o : Outcome) (make : Outcome → A) → outcome_by step ≡ Some o → option_map (λ s. make s.outcome) step ≡ Some (make o)
+of_outcome None o make is = cc
+of_outcome (Some s) o make is = let same : s.outcome ≡ o = cc in ap (λ p. Some (make p)) same
 
--- the journals give the first entry left
+-- the step over the journals has the outcome of the first entry left
 first_gives : (teller : Teller) (number : ℕ) (x : OnObject) (left : Left) (journals : Journals) (e : Entry) (es : List Entry) → Follows teller left journals → left.entries x.object ≡ e ∷ es
-    → e.binder ≡ number → e.operands ≡ x.operands → outcome_by teller number x journals ≡ e.outcome
+    → e.binder ≡ number → e.operands ≡ x.operands → outcome_by (step_of teller.binders (members_of teller journals x) number x.operands) ≡ Some e.outcome
 first_gives teller number x left journals e es follows is binder operands =
     let legal : IsLegal teller.binders (members_of teller journals x) (e ∷ es) = subst (IsLegal teller.binders (members_of teller journals x)) is (follows.legal x.object) in
-    sym (legal.0 ∙ ap (λ n. (step_of teller.binders (members_of teller journals x) n e.operands).outcome) binder
-    ∙ ap (λ vs. (step_of teller.binders (members_of teller journals x) number vs).outcome) operands)
+    ap (λ (n : ℕ). outcome_by (step_of teller.binders (members_of teller journals x) n x.operands)) (sym binder)
+    ∙ ap (λ (vs : List Value). outcome_by (step_of teller.binders (members_of teller journals x) e.binder vs)) (sym operands) ∙ legal.0
 
 first_is : (teller : Teller) (number : ℕ) (x : OnObject) (left : Left) (journals : Journals) (e : Entry) (es : List Entry) → Follows teller left journals → left.entries x.object ≡ e ∷ es
-    → e.binder ≡ number → e.operands ≡ x.operands → entry_of teller number x (outcome_by teller number x journals) ≡ e
+    → e.binder ≡ number → e.operands ≡ x.operands → entry_of teller number x e.outcome ≡ e
 first_is teller number x left journals e es follows is binder operands =
     let told : AllByRecursion (IsToldBy teller) (e ∷ es) = subst (AllByRecursion (IsToldBy teller)) is (follows.told x.object) in
-    same_entry (entry_of teller number x (outcome_by teller number x journals)) e (sym told.0.0) (sym told.0.1) (sym binder) (sym operands)
-    (first_gives teller number x left journals e es follows is binder operands)
+    same_entry (entry_of teller number x e.outcome) e (sym told.0.0) (sym told.0.1) (sym binder) (sym operands) refl
+
+-- the journals give the first entry left, and take it
+first_taken : (teller : Teller) (number : ℕ) (binder : Binder) (x : OnObject) (left : Left) (journals : Journals) (e : Entry) (es : List Entry) → Follows teller left journals → left.entries x.object ≡ e ∷ es
+    → e.binder ≡ number → e.operands ≡ x.operands → (journal_objects teller).operate journals number binder x ≡ Some (e.outcome, with_entry journals x e)
+first_taken teller number binder x left journals e es follows is numbered operands =
+    of_outcome (step_of teller.binders (members_of teller journals x) number x.operands) e.outcome (λ o. (o, with_entry journals x (entry_of teller number x o)))
+    (first_gives teller number x left journals e es follows is numbered operands)
+    ∙ ap (λ (f : Entry). Some (e.outcome, with_entry journals x f)) (first_is teller number x left journals e es follows is numbered operands)
 
 legal_at : (teller : Teller) (x : OnObject) (left : Left) (journals : Journals) (e : Entry) (es : List Entry) (object : ℕ) (b : Bool) → Follows teller left journals → left.entries x.object ≡ e ∷ es
     → IsLegal teller.binders (members_after teller.binders [] (if b then journals.entries x.object ++ e ∷ [] else journals.entries object)) (if b then es else left.entries object)
@@ -100,7 +106,7 @@ told_at teller x left journals e es object true follows is = (subst (AllByRecurs
 told_at teller x left journals e es object false follows is = follows.told object
 
 follows_on : (teller : Teller) (x : OnObject) (left : Left) (journals : Journals) (e : Entry) (es : List Entry) → Follows teller left journals → left.entries x.object ≡ e ∷ es
-    → Follows teller (used left x es) (taken journals x e)
+    → Follows teller (used left x es) (with_entry journals x e)
 follows_on teller x left journals e es follows is = record {
   legal = λ object. legal_at teller x left journals e es object (nat_eq object x.object) follows is;
   told = λ object. told_at teller x left journals e es object (nat_eq object x.object) follows is;
@@ -118,25 +124,21 @@ joined_at x left journals e es object false same is = refl
 abbrev GoesAlike : {A : Type 0} → Teller → (Outcome → Left → Run Left A) → (Outcome → Journals → Run Journals A) → Type 0
 GoesAlike teller one two = (o : Outcome) (left : Left) (journals : Journals) → Follows teller left journals → (one o left).came ≢ None → AreAlike (one o left) (two o journals) left journals
 
-used_alike : {A : Type 0} (teller : Teller) (a : Asked) (number : ℕ) (x : OnObject) (left : Left) (journals : Journals) (e : Entry) (es : List Entry)
+used_alike : {A : Type 0} (teller : Teller) (a : Asked) (number : ℕ) (binder : Binder) (x : OnObject) (left : Left) (journals : Journals) (e : Entry) (es : List Entry)
     (one : Outcome → Left → Run Left A) (two : Outcome → Journals → Run Journals A) → GoesAlike teller one two → Follows teller left journals → left.entries x.object ≡ e ∷ es
     → e.binder ≡ number → e.operands ≡ x.operands → (one e.outcome (used left x es)).came ≢ None
-    → AreAlike (after_asked a (one e.outcome (used left x es)))
-    (after_asked a (two (outcome_by teller number x journals) (taken journals x (entry_of teller number x (outcome_by teller number x journals))))) left journals
-used_alike teller a number x left journals e es one two alike follows is binder operands more =
-    let f : Entry = entry_of teller number x (outcome_by teller number x journals) in
-    let same : f ≡ e = first_is teller number x left journals e es follows is binder operands in
-    let gives : outcome_by teller number x journals ≡ e.outcome = first_gives teller number x left journals e es follows is binder operands in
-    let r = alike e.outcome (used left x es) (taken journals x e) (follows_on teller x left journals e es follows is) more in
-    let all : AreAlike (after_asked a (one e.outcome (used left x es))) (after_asked a (two e.outcome (taken journals x e))) left journals = record {
+    → AreAlike (after_asked a (one e.outcome (used left x es))) (goes_on a journals two ((journal_objects teller).operate journals number binder x)) left journals
+used_alike teller a number binder x left journals e es one two alike follows is numbered operands more =
+    let r = alike e.outcome (used left x es) (with_entry journals x e) (follows_on teller x left journals e es follows is) more in
+    let all : AreAlike (after_asked a (one e.outcome (used left x es))) (after_asked a (two e.outcome (with_entry journals x e))) left journals = record {
       came = r.came;
       lines = r.lines;
       asked = ap (λ rest. a ∷ rest) r.asked;
       entries = λ object. r.entries object ∙ joined_at x left journals e es object (nat_eq object x.object) refl is;
       next = r.next;
     } in
-    subst (λ o. AreAlike (after_asked a (one e.outcome (used left x es))) (after_asked a (two o (taken journals x f))) left journals) (sym gives)
-    (subst (λ z. AreAlike (after_asked a (one e.outcome (used left x es))) (after_asked a (two e.outcome (taken journals x z))) left journals) (sym same) all)
+    subst (λ (o : Option (Outcome × Journals)). AreAlike (after_asked a (one e.outcome (used left x es))) (goes_on a journals two o) left journals)
+    (sym (first_taken teller number binder x left journals e es follows is numbered operands)) all
 
 first_alike : {A : Type 0} (teller : Teller) (a : Asked) (number : ℕ) (binder : Binder) (x : OnObject) (left : Left) (journals : Journals) (e : Entry) (es : List Entry) (b : Bool)
     (one : Outcome → Left → Run Left A) (two : Outcome → Journals → Run Journals A) → GoesAlike teller one two → Follows teller left journals → left.entries x.object ≡ e ∷ es
@@ -145,7 +147,7 @@ first_alike : {A : Type 0} (teller : Teller) (a : Asked) (number : ℕ) (binder 
     → AreAlike (goes_on a left one (if b then Some (e.outcome, used left x es) else None)) (goes_on a journals two ((journal_objects teller).operate journals number binder x)) left journals
 first_alike teller a number binder x left journals e es true one two alike follows is test more =
     let parts = and_parts (nat_eq e.binder number) (are_same e.operands x.operands) test in
-    used_alike teller a number x left journals e es one two alike follows is (eqb-true e.binder number parts.0) (same_values e.operands x.operands parts.1) more
+    used_alike teller a number binder x left journals e es one two alike follows is (eqb-true e.binder number parts.0) (same_values e.operands x.operands parts.1) more
 first_alike teller a number binder x left journals e es false one two alike follows is test more = absurd (more refl)
 
 entries_alike : {A : Type 0} (teller : Teller) (a : Asked) (number : ℕ) (binder : Binder) (x : OnObject) (left : Left) (journals : Journals) (es : List Entry)
@@ -161,7 +163,7 @@ asked_alike : {A : Type 0} (teller : Teller) (a : Asked) (number : ℕ) (binder 
     → (goes_on a left one (outcome_on left_objects target number binder operands left)).came ≢ None
     → AreAlike (goes_on a left one (outcome_on left_objects target number binder operands left)) (goes_on a journals two (outcome_on (journal_objects teller) target number binder operands journals)) left journals
 asked_alike teller a number binder operands left journals None one two alike follows more =
-    let r = alike (plain_step binder operands) left journals follows more in
+    let r = alike (plain_step no_functions binder operands) left journals follows more in
     record { came = r.came; lines = r.lines; asked = ap (λ rest. a ∷ rest) r.asked; entries = r.entries; next = r.next }
 asked_alike teller a number binder operands left journals (Some x) one two alike follows more =
     entries_alike teller a number binder x left journals (left.entries x.object) one two alike follows refl more

@@ -1,17 +1,24 @@
 -- The run of acts over a store of objects, in one of two forms: the objects' journals, or the entries and numbers
 -- that are left of one task's.
 use Rattle.std.specs.Prelude.{◌≡◌, ℕ, ◌+◌, nat_eq, Bool, true, false, ◌&&◌, if◌then◌else◌, List, [], ◌∷◌, ◌++◌, get_or, Option, None, Some}
+use Rattle.std.specs.Option.{option_map}
 use Rattle.dyn_value.specs.declared.entry.Entry.{Entry}
 use Rattle.dyn_value.specs.declared.outcome.Outcome.{Outcome}
 use Rattle.dyn_value.specs.declared.value.Value.{Value}
 use Rattle.dyn_value.specs.Operations.{is_same}
 use Rattle.standard_binders.specs.declared.binder.Binder.{Binder}
 use Rattle.object_model.specs.Journals.{members_after, step_of}
-use Rattle.object_model.specs.Steps.{OnObject, on_object, plain_step}
+use Rattle.object_model.specs.Plain.{plain_step}
+use Rattle.object_model.specs.Steps.{OnObject, on_object}
+use Rattle.standard_binders.specs.Functions.{Functions}
 use Rattle.program_eval.specs.declared.ended.Ended.{Ended}
 use Rattle.program_eval.specs.declared.ended.Ended.TheVariants as ended
 use Rattle.program_eval.specs.declared.world.Asked.{Asked}
 use Rattle.program_eval.specs.Acts.{State, Ending, Gives, Fails, Act, Ends, Prints, Asks, Draws}
+
+-- the functions of a script: none can be written so far
+abbrev pub no_functions : Functions
+no_functions = []
 
 abbrev pub Lines : Type 0
 Lines = List (List ℕ)
@@ -41,7 +48,7 @@ after_asked a r = record { came = r.came; lines = r.lines; asked = a ∷ r.asked
 
 -- the outcome of an operation, and the store after it; an operation that looks at no object leaves the store
 abbrev pub outcome_on : {Store : Type 0} → Objects Store → Option OnObject → ℕ → Binder → List Value → Store → Option (Outcome × Store)
-outcome_on objects None number binder operands store = Some (plain_step binder operands, store)
+outcome_on objects None number binder operands store = Some (plain_step no_functions binder operands, store)
 outcome_on objects (Some x) number binder operands store = objects.operate store number binder x
 
 abbrev pub goes_on : {Store A : Type 0} → Asked → Store → (Outcome → Store → Run Store A) → Option (Outcome × Store) → Run Store A
@@ -110,13 +117,18 @@ pub record Teller : Type 0 where
 abbrev pub entry_of : Teller → ℕ → OnObject → Outcome → Entry
 entry_of teller number x o = record { pass = teller.pass; task = teller.task; binder = number; operands = x.operands; outcome = o }
 
+-- the object's journal takes the entry
+abbrev pub with_entry : Journals → OnObject → Entry → Journals
+with_entry journals x e = record { entries = updated journals.entries x.object (journals.entries x.object ++ e ∷ []); next = journals.next }
+
 -- An operation on an object gives what its binder gives on the members after the object's journal, and its entry
--- is appended. A draw gives the next number.
+-- is appended; there is no answer where the binder's operation is none on members, or the operands do not suit it. A draw
+-- gives the next number.
 abbrev pub journal_objects : Teller → Objects Journals
 journal_objects teller = record {
   operate = λ journals number binder x.
-      let o : Outcome = (step_of teller.binders (members_after teller.binders [] (journals.entries x.object)) number x.operands).outcome in
-      Some (o, record { entries = updated journals.entries x.object (journals.entries x.object ++ entry_of teller number x o ∷ []); next = journals.next });
+      option_map (λ step. (step.outcome, with_entry journals x (entry_of teller number x step.outcome)))
+      (step_of teller.binders (members_after teller.binders [] (journals.entries x.object)) number x.operands);
   draw = λ journals. Some (journals.next, record { entries = journals.entries; next = journals.next + 1 });
 }
 

@@ -4,10 +4,11 @@ use Rattle.dyn_value.specs.declared.entry.Entry.{Entry}
 use Rattle.dyn_value.specs.declared.outcome.Outcome.{Outcome}
 use Rattle.dyn_value.specs.declared.value.Value.{Value}
 use Rattle.standard_binders.specs.declared.binder.Binder.{Binder}
-use Rattle.object_model.specs.Steps.{OnObject, on_object, plain_step}
+use Rattle.object_model.specs.Plain.{plain_step}
+use Rattle.object_model.specs.Steps.{OnObject, on_object}
 use Rattle.script_front.specs.declared.program.Program.{Program}
 use Rattle.script_front.specs.Programs.{sites_of, binders_of}
-use Rattle.program_eval.specs.Stores.{Teller, entry_of, updated, Left}
+use Rattle.program_eval.specs.Stores.{no_functions, Teller, entry_of, updated, Left}
 
 -- for each object the same entries
 abbrev pub AreSame : (ℕ → List Entry) → (ℕ → List Entry) → Type 0
@@ -18,7 +19,7 @@ teller_of program pass task = record { binders = binders_of program; pass = pass
 
 -- the outcome of an operation, and the entries after it
 abbrev pub AnswersOn : Option OnObject → Program → ℕ → ℕ → ℕ → Binder → List Value → Outcome → (ℕ → List Entry) → (ℕ → List Entry) → Type 0
-AnswersOn None program pass task site b operands o old new = (o ≡ plain_step b operands) × AreSame old new
+AnswersOn None program pass task site b operands o old new = (o ≡ plain_step no_functions b operands) × AreSame old new
 AnswersOn (Some x) program pass task site b operands o old new =
     AreSame (updated old x.object (old x.object ++ entry_of (teller_of program pass task) (get_or (sites_of program) site 0) x o ∷ [])) new
 

@@ -18,7 +18,7 @@ pub trait World {
     ghost use Rattle.dyn_value.specs.Proper.{IsProperIn};
     ghost use Rattle.standard_binders.specs.declared.binder.Binder.{Binder};
     ghost use Rattle.standard_binders.specs.Binders.{operand_count_of};
-    ghost use Rattle.object_model.specs.Steps.{IsAnswerIn};
+    ghost use Rattle.object_model.specs.Plain.{IsAnswerIn};
     ghost use Rattle.script_front.specs.declared.program.Program.{Program};
     ghost use Rattle.script_front.specs.Programs.{script_of};
     ghost use Rattle.script_front.specs.Sites.{site_binders};

@@ -14,13 +14,12 @@ use Rattle.std.proofs.lemmas.Str.Parse.{numerals_by_value, tells_digits, digits_
 use Rattle.std.proofs.lemmas.Fmt.{decimal_is_IsNumeral, decimal-digits_value, first_decimal, decimal_digit}
 use Rattle.std.proofs.lemmas.List.{get_or_read}
 use Rattle.std.proofs.lemmas.Int.Digits.{digits_value_more}
-use Rattle.std.proofs.lemmas.Bool.{cases_lt}
+use Rattle.std.proofs.lemmas.Bool.{and_parts, cases_lt}
 use Rattle.std.proofs.lemmas.Bool.Decides.{nat_tests}
 use Rattle.script_front.specs.declared.token.Token.TheVariants.{Name, Int, Word, Mark}
 use Rattle.script_front.specs.Lexemes.{IsDigits, Means}
 use Rattle.script_front.specs.TextFronts.{MeansNothing}
 use Rattle.script_front.proofs.FirstCharacters.{digits_kind}
-use Rattle.script_front.proofs.LexemeRuns.{one_passes, both_pass}
 use Rattle.script_front.proofs.TokenMeanings.{means_kind}
 
 digit_range : (c : ℕ) → is_ascii_digit c ≡ true → (48 ≤ c) × (c ≤ 57)
@@ -35,7 +34,7 @@ value_of_digit c digit =
 all_digits : (ds : List ℕ) → list_all is_ascii_digit ds ≡ true → AllDigits 10 ds
 all_digits [] pass = tt
 all_digits (c ∷ cs) pass =
-    ((value_of_digit c (one_passes (is_ascii_digit c) (list_all is_ascii_digit cs) pass)).2, all_digits cs (both_pass (is_ascii_digit c) (list_all is_ascii_digit cs) pass))
+    ((value_of_digit c ((and_parts (is_ascii_digit c) (list_all is_ascii_digit cs) pass).0)).2, all_digits cs ((and_parts (is_ascii_digit c) (list_all is_ascii_digit cs) pass).1))
 
 pub digits_all : (ds : List ℕ) → IsDigits ds → list_all is_ascii_digit ds ≡ true
 digits_all [] digits = absurd digits
@@ -43,8 +42,8 @@ digits_all (c ∷ cs) digits = rw digits.0 digits.1
 
 digit_in : (ds : List ℕ) (i : ℕ) → list_all is_ascii_digit ds ≡ true → i < length ds → is_ascii_digit (get_or ds i 0) ≡ true
 digit_in [] i pass within = absurd (omega arith)
-digit_in (c ∷ cs) zero pass within = one_passes (is_ascii_digit c) (list_all is_ascii_digit cs) pass
-digit_in (c ∷ cs) (suc i) pass within = digit_in cs i (both_pass (is_ascii_digit c) (list_all is_ascii_digit cs) pass) (omega arith)
+digit_in (c ∷ cs) zero pass within = (and_parts (is_ascii_digit c) (list_all is_ascii_digit cs) pass).0
+digit_in (c ∷ cs) (suc i) pass within = digit_in cs i ((and_parts (is_ascii_digit c) (list_all is_ascii_digit cs) pass).1) (omega arith)
 
 -- each is a digit
 pub digit_at : (ds : List ℕ) (i : ℕ) → IsDigits ds → i < length ds → is_ascii_digit (get_or ds i 0) ≡ true

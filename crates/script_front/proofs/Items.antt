@@ -127,14 +127,6 @@ first_stop G H r rest follows completes s =
           s.stuck us go t.0 ((H t.0).tokens t.1 ++ post) m.0 (e ∙ append_assoc (G.tokens t.0) ((H t.0).tokens t.1) post);
     }
 
--- the form is read
-pub read_all : (F : Form) (ts r : Tokens) (P : Tokens → Type 0) (c : Unit {0} → F.Tree) → At F ts (nothing P) r c →
-    P r → Reads F ts (c tt) r
-read_all F ts r P c f p = record {
-  split = f.split ∙ ap (λ z. z ++ r) (sym (append-nil f.before) ∙ sym (f.same tt r p));
-  may = f.may tt r p;
-}
-
 -- the rest of the form is read
 pub read_rest : (F G : Form) (ts r q : Tokens) (c : G.Tree → F.Tree) (g : G.Tree) → At F ts G r c → Reads G r g q →
     Reads F ts (c g) q

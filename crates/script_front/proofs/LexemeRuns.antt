@@ -2,6 +2,7 @@
 use Rattle.std.proofs.Common.{◌≡◌, ℕ, suc, ◌+◌, ◌<◌, ◌≤◌, Bool, true, false, cond, ◌&&◌, List, [], ◌∷◌, ◌++◌, length, take, drop, refl, sym, ◌∙◌, ap, subst, arith}
 use Rattle.std.specs.List.{list_all, prefix_len}
 use Rattle.std.specs.Char.{is_ascii_digit}
+use Rattle.std.proofs.lemmas.Bool.{and_parts}
 use Rattle.std.proofs.lemmas.List.Folds.{list_all-append}
 use Rattle.std.proofs.lemmas.List.Sums.{prefix_len-le-length}
 use Rattle.unicode_ident.specs.Ident.{is_xid_continue}
@@ -35,19 +36,11 @@ run_stops p (c ∷ cs) =
 pub run_begins : (p : ℕ → Bool) (c : ℕ) (cs : List ℕ) → p c ≡ true → prefix_len p (c ∷ cs) ≡ suc (prefix_len p cs)
 run_begins p c cs is = let e : 1 + prefix_len p cs ≡ suc (prefix_len p cs) = omega arith in rw (is, e)
 
-pub both_pass : (a b : Bool) → (a && b) ≡ true → b ≡ true
-both_pass true b h = h
-both_pass false b h = cc
-
-pub one_passes : (a b : Bool) → (a && b) ≡ true → a ≡ true
-one_passes true b h = refl
-one_passes false b h = cc
-
 -- no run goes on where it stops
 stopped : (p : ℕ → Bool) (cs more rest after : List ℕ) → list_all p (cs ++ more) ≡ true → StopsAt p rest → rest ≡ more ++ after → more ≡ []
 stopped p cs [] rest after pass stop is = refl
 stopped p cs (m ∷ ms) rest after pass stop is =
-    let passes : p m ≡ true = one_passes (p m) (list_all p ms) (both_pass (list_all p cs) (list_all p (m ∷ ms)) (sym (list_all-append p cs (m ∷ ms)) ∙ pass)) in
+    let passes : p m ≡ true = (and_parts (p m) (list_all p ms) ((and_parts (list_all p cs) (list_all p (m ∷ ms)) (sym (list_all-append p cs (m ∷ ms)) ∙ pass)).1)).0 in
     let stops : p m ≡ false = subst (StopsAt p) is stop in
     cc
 

@@ -2,6 +2,7 @@
 use Rattle.std.proofs.Common.{◌≡◌, ◌≢◌, ℕ, suc, ◌+◌, ◌<◌, ◌≤◌, Bool, true, not, List, [], ◌∷◌, length, get_or, take, drop, refl, sym, ◌∙◌, ap, subst, arith, take-append-drop}
 use Rattle.std.specs.Prelude.{◌==◌, Some, None}
 use Rattle.std.specs.List.{list_all, prefix_len}
+use Rattle.std.proofs.lemmas.Bool.{and_parts}
 use Rattle.std.proofs.lemmas.Bool.Decides.{nat_tests}
 use Rattle.std.proofs.lemmas.List.Sums.{prefix_len-le-length}
 use Rattle.script_front.specs.declared.token.Token.{Token}
@@ -9,7 +10,7 @@ use Rattle.script_front.specs.Lexemes.{is_blank, Longest, Means, EndsLine, HasNo
 use Rattle.script_front.specs.Lexemes.Piece.{Blank, Comment, Lexeme}
 use Rattle.script_front.specs.TextFronts.{MeansNothing, IsFront}
 use Rattle.script_front.proofs.FrontPieces.{bad_lexeme}
-use Rattle.script_front.proofs.LexemeRuns.{IsRun, StopsAt, run_passes, run_stops, one_passes, both_pass}
+use Rattle.script_front.proofs.LexemeRuns.{IsRun, StopsAt, run_passes, run_stops}
 
 -- a token at the front
 pub lexeme_front : (cs : List ℕ) (n : ℕ) (t : Token) → 0 < n → n ≤ length cs → Longest (take n cs) (drop n cs) → Means (take n cs) t
@@ -35,7 +36,7 @@ no_line_feed : (cs : List ℕ) → list_all (λ c. not (c == 10)) cs ≡ true �
 no_line_feed [] pass = tt
 no_line_feed (c ∷ cs) pass =
     let rest = list_all (λ c. not (c == 10)) cs in
-    (no_ten c (one_passes (not (c == 10)) rest pass), no_line_feed cs (both_pass (not (c == 10)) rest pass))
+    (no_ten c ((and_parts (not (c == 10)) rest pass).0), no_line_feed cs ((and_parts (not (c == 10)) rest pass).1))
 
 ends_line : (cs : List ℕ) → StopsAt (λ c. not (c == 10)) cs → EndsLine cs
 ends_line [] stop = tt

@@ -32,10 +32,6 @@ binary_expr op l r ss = record { head = head.Binary op l r; suffixes = ss }
 abbrev pub new_expr : List Suffix → Expr
 new_expr ss = record { head = head.New; suffixes = ss }
 
--- an expression by its head
-pub expr_by_head : (e : Expr) (h : Head) → e.head ≡ h → e ≡ (let x : Expr = record { head = h; suffixes = e.suffixes } in x)
-expr_by_head e h is = ap (λ (z : Head). let x : Expr = record { head = z; suffixes = e.suffixes } in x) is
-
 -- a fold of an expression, by what its head rolls up
 layer : (A B : Type 0) (h : Head-F A B → A) (e : Expr-F A B → B) (x : Head) (y : A) (ss : List Suffix) →
     fold-Head A B h e x ≡ y →

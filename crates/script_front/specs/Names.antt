@@ -1,8 +1,7 @@
 -- What names name, and the rules on them.
 use Rattle.std.specs.Prelude.{◌≡◌, ◌<◌, ℕ, Bool, true, false, not, ◌&&◌, List, [], ◌∷◌, ◌++◌, map, Option, None, Some}
-use Rattle.std.specs.List.{flat_map, list_all, list_any, position}
+use Rattle.std.specs.List.{IsDistinct, flat_map, list_all, list_any, position}
 use Rattle.std.specs.Str.{bytes_eq}
-use Rattle.dyn_value.specs.Texts.{are_distinct}
 use Rattle.script_front.specs.declared.place.Place.{Place}
 use Rattle.script_front.specs.declared.place.Place.TheVariants.{Local, Shared}
 use Rattle.script_front.specs.declared.tree.Head.TheFolds.{fold-Expr}
@@ -100,6 +99,6 @@ is_some_place (Some p) = true
 -- The rules on names: those of the items are distinct, a `let` name is no item's and none in scope, and every
 -- other name names something.
 pub record AreNamed (s : Script) : Type 0 where
-  pub items : are_distinct (item_names s) ≡ true
+  pub items : IsDistinct bytes_eq (item_names s)
   pub lets : list_all (are_task_lets_new (item_names s)) s.tasks ≡ true
   pub places : list_all is_some_place (script_places s) ≡ true

@@ -13,7 +13,12 @@ struct Ran {
 }
 
 /// Runs the command with these words, parted by blanks, over this script.
-fn run<R: Threads + Wait>(rt: &R, alloc: Global, words: &str, script: &[u8]) -> Result<Ran, Fail> {
+fn run<R: Threads + Wait + Sync>(
+    rt: &R,
+    alloc: Global,
+    words: &str,
+    script: &[u8],
+) -> Result<Ran, Fail> {
     let mut texts = Vec::new(alloc);
     for word in words.split_ascii_whitespace() {
         let text = DynText::from_str(alloc, word)?;

@@ -1,20 +1,21 @@
-ghost use Rattle.std.specs.Prelude.{◌≡◌, ◌<◌, ◌+◌, ◌↔◌, true, length, drop, IsTrue, IfOk};
-ghost use Rattle.std.specs.List.{list_all, list_any};
+ghost use Rattle.std.specs.Prelude.{◌≡◌, ◌↔◌, true, IsTrue, IfOk};
+ghost use Rattle.std.specs.List.{IsDistinct, list_all};
 ghost use Rattle.std.specs.Str.{bytes_eq};
-ghost use Rattle.dyn_value.specs.Texts.{are_distinct};
 ghost use Rattle.script_front.specs.Names.{item_names, are_task_lets_new};
 
 use crate::tree::{Script, Stmt, Task};
-use dyn_value::DynText;
+use dyn_value::{DynText, are_distinct, is_among};
 use sqlite_items::Items;
 use std::alloc::{AllocError, Global};
 
 /// Whether no two items have one name, and each `let` name is no item's and none in scope.
 pub(crate) fn are_declared_once(alloc: Global, script: &Script) -> Result<bool, AllocError>
-    ensures { IfOk result (λ b. IsTrue b ↔ ((are_distinct (item_names script.now) ≡ true) × (list_all (are_task_lets_new (item_names script.now)) script.now.tasks ≡ true))) }
+    ensures { IfOk result (λ b. IsTrue b
+        ↔ (IsDistinct bytes_eq (item_names script.now)
+        × (list_all (are_task_lets_new (item_names script.now)) script.now.tasks ≡ true))) }
 {
     let items = names_of_items(alloc, script)?;
-    if !are_apart(items.as_slice()) {
+    if !are_distinct(items.as_slice()) {
         return Ok(false);
     }
     for task in script.tasks.as_slice() {
@@ -39,18 +40,6 @@ fn names_of_items(alloc: Global, script: &Script) -> Result<Items<DynText>, Allo
     Ok(names)
 }
 
-/// Whether no name stands among these twice.
-fn are_apart(names: &[DynText]) -> bool
-    ensures { result ≡ are_distinct names.now }
-{
-    for (place, name) in names.iter().enumerate() {
-        if is_among(after(names, place), name) {
-            return false;
-        }
-    }
-    true
-}
-
 /// Whether each `let` name of the task is no item's and none in scope.
 fn are_lets_fresh(alloc: Global, items: &[DynText], task: &Task) -> Result<bool, AllocError>
     ensures { IfOk result (λ b. b ≡ are_task_lets_new items.now task.now) }
@@ -65,19 +54,4 @@ fn are_lets_fresh(alloc: Global, items: &[DynText], task: &Task) -> Result<bool,
         }
     }
     Ok(true)
-}
-
-/// Whether the name is one of these.
-fn is_among(names: &[DynText], name: &DynText) -> bool
-    ensures { result ≡ list_any (bytes_eq name.now) names.now }
-{
-    names.iter().any(|known| known.same(name))
-}
-
-/// The names after this place.
-fn after(names: &[DynText], place: usize) -> &[DynText]
-    requires { place < length names.now }
-    ensures { result.now ≡ drop (place + 1) names.now }
-{
-    &names[place + 1..]
 }

@@ -1,8 +1,0 @@
-use Rattle.dlr_top.specs.Rendering.{operand_text}
-use Rattle.dlr_top.proofs.Lines.{row_more}
-use Rattle.dlr_top.proofs.entries.render_operands.Goals as goal
-
-pub loop-operand-preserved : goal.loop-operand-preserved
-loop-operand-preserved c =
-    row_more operand_text c.args.operands.now c.loop-operand.operand-index c.operand-item.result c.args.out.now.items c.loop-operand.out.items c.render_operand.new.out.items
-    c.loop-operand-test.true c.operand-item.is c.loop-operand.invariant c.in_ok-render_operand.ensures

@@ -1,8 +1,0 @@
-use Rattle.dlr_top.proofs.Lines.{both, both_ok}
-use Rattle.dlr_top.proofs.rendering.render_line.Goals as goal
-
-pub returns : goal.returns
-returns c =
-    both_ok c.put_ascii-2.result _ _ _ _ _
-    (both _ _ _ _ _ (both _ _ _ _ _ c.in_ok-put_text.ensures c.in_ok-put_ascii.ensures) c.in_ok-put_text-2.ensures)
-    c.put_ascii-2.ensures

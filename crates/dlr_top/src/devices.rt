@@ -1,0 +1,19 @@
+//! Where bytes come from and go to: sources and sinks, in memory and over a reader and a writer.
+
+mod clean_sink;
+mod clean_source;
+mod input_source;
+mod intake;
+mod output;
+mod output_sink;
+mod sink;
+mod source;
+
+pub use clean_sink::CleanSink;
+pub use clean_source::CleanSource;
+pub use input_source::InputSource;
+pub(crate) use intake::{Unread, read_all};
+pub(crate) use output::{Unwritten, deliver};
+pub use output_sink::OutputSink;
+pub use sink::Sink;
+pub use source::{Failed, Source};

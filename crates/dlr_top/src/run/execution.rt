@@ -1,0 +1,86 @@
+ghost use Rattle.std.specs.Prelude.{◌≡◌, ◌↔◌, ◌⊎◌, List, ℕ, Option, Some, IsTrue, IsSome, IfSome, IfOk, encode_utf8_all};
+ghost use Rattle.script_front.specs.Programs.{script_of};
+ghost use Rattle.script_front.specs.Script.{IsScript};
+ghost use Rattle.dlr_top.specs.Commands.{command_of};
+ghost use Rattle.dlr_top.specs.Devices.{Rose};
+ghost use Rattle.dlr_top.specs.Headline.{Reports, SomeFaulted};
+ghost use Rattle.dlr_top.specs.Lawful.{IsLawful, IsSerial};
+ghost use Rattle.dlr_top.specs.Rendering.{report_text};
+
+use crate::command::TopOutcome;
+use crate::devices::{Sink, Unwritten, deliver};
+use crate::report::{Report, render};
+use crate::run::tasks::run_tasks;
+use crate::status;
+use crate::words::Options;
+use program_eval::Ended;
+use script_front::Program;
+use std::alloc::{AllocError, Global};
+use std::sync::Wait;
+
+/// Runs the program, and writes the text of its report.
+pub(crate) fn execute<R: Wait, K: Sink>(
+    rt: &R,
+    alloc: Global,
+    program: &Program,
+    options: &Options,
+    sink: &mut K,
+) -> TopOutcome
+    ensures status { (result.status ≡ 0) ⊎ (result.status ≡ 1) ⊎ (result.status ≡ 3) ⊎ (result.status ≡ 5) }
+    ensures reported { IsSome result.report ↔ ((result.status ≡ 0) ⊎ (result.status ≡ 1) ⊎ (result.status ≡ 5)) }
+    ensures report { IfSome result.report (λ report. (held : Option (List ℕ)) (words : List (List ℕ)) → IfSome held (λ bytes. IsScript bytes (script_of program.now)) → command_of words ≡ Some options.now → Reports result.status words held (K.has sink.old) (K.has sink.new) report) }
+    ensures memory { result.status ≡ 3 → (K.has sink.new ≡ K.has sink.old) × (K.faults sink.new ≡ K.faults sink.old) }
+    ensures sink_failed { result.status ≡ 5 → Rose (K.faults sink.old) (K.faults sink.new) }
+{
+    let (report, text) = match run_and_render(rt, alloc, program, options) {
+        Ok(run) => run,
+        Err(AllocError) => return TopOutcome::without_report(status::MEMORY),
+    };
+    match deliver(sink, text.as_slice()) {
+        Ok(()) => TopOutcome::with_report(status_of(&report), report),
+        Err(Unwritten::SinkFailed) => TopOutcome::with_report(status::SINK_FAILED, report),
+        Err(Unwritten::Memory) => TopOutcome::without_report(status::MEMORY),
+    }
+}
+
+// The report of the program's run, and its text.
+fn run_and_render<R: Wait>(
+    rt: &R,
+    alloc: Global,
+    program: &Program,
+    options: &Options,
+) -> Result<(Report, Vec<u8>), AllocError>
+    ensures lawful { IfOk result (λ run. IsLawful program.now run.0) }
+    ensures serial { IfOk result (λ run. IsSerial program.now run.0) }
+    ensures text { IfOk result (λ run. run.1.items ≡ encode_utf8_all (report_text program.now options.now run.0)) }
+{
+    let report = run_tasks(rt, alloc, program)?;
+    let mut text = Vec::new(alloc);
+    render(program, options, &report, &mut text)?;
+    Ok((report, text))
+}
+
+// The status of a run whose text was written whole.
+fn status_of(report: &Report) -> u8
+    ensures status { (result ≡ 0) ⊎ (result ≡ 1) }
+    ensures all_done { result ≡ 0 → SomeFaulted report.now → ⊥ }
+    ensures faulted { result ≡ 1 → SomeFaulted report.now }
+{
+    if is_any_faulted(report) {
+        status::TASK_FAULTED
+    } else {
+        status::ALL_DONE
+    }
+}
+
+fn is_any_faulted(report: &Report) -> bool
+    ensures faulted { IsTrue result → SomeFaulted report.now }
+    ensures none { SomeFaulted report.now → IsTrue result }
+{
+    for end in report.tasks.as_slice() {
+        if let Ended::Faulted(_) = end.ended {
+            return true;
+        }
+    }
+    false
+}
