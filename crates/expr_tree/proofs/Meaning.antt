@@ -10,13 +10,13 @@ use Rattle.expr_tree.specs.Texts.{node_text, text_in, form}
 use Rattle.expr_tree.specs.Trees.{IsTree, fits}
 
 -- an element of a list with more after it
-get_front : {A : Type 0} (xs ys : List A) (i : ℕ) → i < length xs → slice_get (xs ++ ys) i ≡ slice_get xs i
+pub get_front : {A : Type 0} (xs ys : List A) (i : ℕ) → i < length xs → slice_get (xs ++ ys) i ≡ slice_get xs i
 get_front [] ys i small = absurd (omega (arith, small))
 get_front (x ∷ xs) ys zero small = refl
 get_front (x ∷ xs) ys (suc i) small = get_front xs ys i (omega (arith, small))
 
 -- and the first of those
-get_next : {A : Type 0} (xs : List A) (x : A) → slice_get (xs ++ x ∷ []) (length xs) ≡ Some x
+pub get_next : {A : Type 0} (xs : List A) (x : A) → slice_get (xs ++ x ∷ []) (length xs) ≡ Some x
 get_next [] x = refl
 get_next (y ∷ xs) x = get_next xs x
 

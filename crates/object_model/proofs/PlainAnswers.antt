@@ -1,5 +1,5 @@
 -- What an operation answers that looks at no object is proper in a run where its operands are.
-use Rattle.std.proofs.Common.{◌≡◌, ℕ, Bool, true, false, ◌&&◌, ◌++◌, List, Option, None, Some, Result, Ok, refl}
+use Rattle.std.proofs.Common.{ℕ, Bool, true, false, ◌&&◌, ◌++◌, List, Option, None, Some, Result, Ok}
 use Rattle.std.specs.Prelude.{Err, IfOk, ℤ, pos, ◌-ℤ◌, ◌*ℤ◌, ◌+ℤ◌, ◌||◌, encode_utf8_all, nat_le, length, int_div, int_rem, if◌then◌else◌}
 use Rattle.std.specs.Ordering.{int_eq, is_lt, is_le, is_gt, is_ge}
 use Rattle.std.specs.declared.cmp.Ordering.{Ordering}

@@ -1,12 +1,12 @@
 -- There is an access exactly where the binder is one on members and the operands are as many as it has.
-use Rattle.std.proofs.Common.{◌≡◌, ℕ, ◌+◌, Bool, true, false, List, [], ◌∷◌, length, None, Some, Option, refl, arith, nat_eq}
+use Rattle.std.proofs.Common.{◌≡◌, ℕ, ◌+◌, Bool, true, false, List, [], ◌∷◌, length, None, Some, refl, arith, nat_eq}
 use Rattle.std.specs.Prelude.{IsSome, if◌then◌else◌}
 use Rattle.std.proofs.lemmas.Bool.Decides.{nat_tests}
 use Rattle.dyn_value.specs.declared.value.Value.{Value}
 use Rattle.standard_binders.specs.declared.binder.Binder.{Binder}
 use Rattle.standard_binders.specs.declared.binder.Binder.TheVariants.{GetMember, SetMember, DeleteMember, GetIndex, SetIndex, DeleteIndex, InvokeMember}
 use Rattle.standard_binders.specs.Binders.{is_on_members, operand_count_of}
-use Rattle.object_model.specs.Accesses.{Access, Reads, access_of}
+use Rattle.object_model.specs.Accesses.{Reads, access_of}
 
 read_there : (name : List ℕ) (b : Bool) → b ≡ true → IsSome (if b then Some (Reads name) else None)
 read_there name true e = refl

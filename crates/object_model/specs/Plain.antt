@@ -4,7 +4,6 @@ use Rattle.std.specs.List.{list_any}
 use Rattle.std.specs.Str.{bytes_eq}
 use Rattle.dyn_value.specs.declared.value.Value.{Value}
 use Rattle.dyn_value.specs.declared.value.Value.TheVariants as value
-use Rattle.dyn_value.specs.declared.fault.Fault.{Fault as ValueFault}
 use Rattle.dyn_value.specs.declared.fault.Fault.TheVariants.{NoMember, NotIndexable, NotCallable, WrongCount, NoParameter, NotCreatable}
 use Rattle.dyn_value.specs.declared.outcome.Outcome.{Outcome}
 use Rattle.dyn_value.specs.declared.outcome.Outcome.TheVariants as outcome

@@ -14,7 +14,7 @@ use Rattle.expr_tree.specs.declared.node.Node.TheVariants as node
 use Rattle.expr_tree.specs.InOrder.{in_order}
 use Rattle.expr_tree.specs.Meanings.{node_test, passes}
 use Rattle.expr_tree.specs.Trees.{IsTree, fits}
-use Rattle.expr_tree.proofs.Meaning.{in_order_front, in_order_next}
+use Rattle.expr_tree.proofs.Meaning.{get_front, get_next, in_order_front, in_order_next}
 use Rattle.restrictions.specs.declared.restriction.Restriction.{Restriction}
 use Rattle.restrictions.specs.declared.restriction.Restriction.TheVariants.{Kind, Fun, Key, LongKey, Class}
 use Rattle.restrictions.specs.Meanings.{holds, all_hold}
@@ -67,15 +67,6 @@ passes_tree_of ops class (r ∷ rs) =
 -- each node may have its number
 abbrev AreFitting : List Node → Type 0
 AreFitting ns = (i : ℕ) (m : Node) → slice_get ns i ≡ Some m → fits i m ≡ true
-
-get_front : (xs ys : List Node) (i : ℕ) → i < length xs → slice_get (xs ++ ys) i ≡ slice_get xs i
-get_front [] ys i small = absurd (omega (arith, small))
-get_front (x ∷ xs) ys zero small = refl
-get_front (x ∷ xs) ys (suc i) small = get_front xs ys i (omega (arith, small))
-
-get_next : (xs : List Node) (x : Node) → slice_get (xs ++ x ∷ []) (length xs) ≡ Some x
-get_next [] x = refl
-get_next (y ∷ xs) x = get_next xs x
 
 fitting_more : (ns : List Node) (n : Node) → AreFitting ns → fits (length ns) n ≡ true → AreFitting (ns ++ n ∷ [])
 fitting_more ns n fit last i m at =

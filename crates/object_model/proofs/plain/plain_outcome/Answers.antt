@@ -1,7 +1,7 @@
-use Rattle.std.proofs.Common.{◌≡◌, sym, ap, ◌∙◌, subst, length}
-use Rattle.std.specs.Prelude.{IfOk, Result}
+use Rattle.std.proofs.Common.{sym, ap, ◌∙◌, subst, length}
+use Rattle.std.specs.Prelude.{IfOk}
 use Rattle.dyn_value.specs.Outcomes.{outcome_of}
-use Rattle.dyn_value.specs.Proper.{IsProper, IsProperIn}
+use Rattle.dyn_value.specs.Proper.{IsProper}
 use Rattle.object_model.specs.Plain.{IsAnswerIn}
 use Rattle.object_model.proofs.PlainAnswers.{proper_in, operator_answers, conversion_answers}
 use Rattle.object_model.proofs.plain.plain_outcome.Goals as goal
