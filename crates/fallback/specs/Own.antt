@@ -1,8 +1,7 @@
 -- What the language itself answers where it looks at no member of an object, by what is known of the operands: one row
 -- for each operation.
-use Rattle.std.specs.Prelude.{ℕ, codes, Bool, true, false, ◌&&◌, if◌then◌else◌, List, [], ◌∷◌, Option, None, Some, unwrap_or, slice_get}
+use Rattle.std.specs.Prelude.{◌≡◌, ℕ, codes, Bool, true, false, ◌&&◌, if◌then◌else◌, IsTrue, List, length, Option, None, Some, unwrap_or, slice_get}
 use Rattle.std.specs.Str.{bytes_eq}
-use Rattle.dyn_value.specs.declared.fault.Fault.{Fault as ValueFault}
 use Rattle.dyn_value.specs.declared.fault.Fault.TheVariants.{NoMember, NoIndex, NotIndexable, NotCallable, NotCreatable, NoOperator, NoConvert}
 use Rattle.dyn_value.specs.declared.operator.UnOp.{UnOp}
 use Rattle.dyn_value.specs.declared.operator.UnOp.TheVariants as unary
@@ -18,8 +17,11 @@ use Rattle.dyn_value.specs.Kinds.{same_kind}
 use Rattle.expr_tree.specs.declared.node.Node.{Node}
 use Rattle.expr_tree.specs.declared.node.Node.TheVariants.{Const, Unary, Binary, Convert, Length, CharAt, Call, Make, Throw}
 use Rattle.object_model.specs.Plain.{called}
+use Rattle.meta_object.specs.Metas.{IsValueFor, is_callable}
+use Rattle.rule_model.specs.declared.claim.Claim.{Claim}
 use Rattle.rule_model.specs.Tests.{Known}
 use Rattle.standard_binders.specs.Arguments.{Arguments}
+use Rattle.standard_binders.specs.Binders.{is_on_members, operand_count_of}
 use Rattle.standard_binders.specs.Functions.{Functions, parameters_of}
 use Rattle.standard_binders.specs.declared.binder.Binder.{Binder}
 use Rattle.standard_binders.specs.declared.binder.Binder.TheVariants as binder
@@ -84,12 +86,19 @@ abbrev pub convert_node : Kind → Kind → Node
 convert_node k to = if is_convertible k to then Convert to 0 else Throw NoConvert
 
 -- a text has the member `length`; all other members of a value that is no object are missing
+abbrev pub is_length : List ℕ → Kind → Bool
+is_length name k = same_kind k kind.Text && bytes_eq name (codes "length")
+
 abbrev pub member_node : List ℕ → Kind → Node
-member_node name k = if same_kind k kind.Text && bytes_eq name (codes "length") then Length 0 else Throw (NoMember name)
+member_node name k = if is_length name k then Length 0 else Throw (NoMember name)
 
 -- a text is read at a number's place
+abbrev pub char_node : Kind → Node
+char_node key = if same_kind key kind.Int then CharAt 0 1 else Throw NoIndex
+
+-- no other value that is no object is indexed
 abbrev pub index_node : Kind → Kind → Node
-index_node k key = if same_kind k kind.Text then (if same_kind key kind.Int then CharAt 0 1 else Throw NoIndex) else Throw (NotIndexable k)
+index_node k key = if same_kind k kind.Text then char_node key else Throw (NotIndexable k)
 
 -- the node that gives an outcome whatever the operands
 abbrev pub node_giving : Outcome → Node
@@ -98,22 +107,25 @@ node_giving (outcome.Call f) = Call f
 node_giving (outcome.Make f) = Make f
 node_giving (outcome.Fault f) = Throw f
 
+-- a function is called
 abbrev pub invoke_node : Functions → Arguments → Kind → Option Value → Node
 invoke_node functions a k (Some (value.Fun f)) = node_giving (called (parameters_of functions f) 0 a (outcome.Call f))
 invoke_node functions a k _ = Throw (NotCallable k)
 
+-- an object is made by a function
 abbrev pub create_node : Functions → Arguments → Kind → Option Value → Node
 create_node functions a k (Some (value.Fun f)) = node_giving (called (parameters_of functions f) 1 a (outcome.Make f))
 create_node functions a k _ = Throw (NotCreatable k)
 
--- what is known of the second operand
+-- what is known of no operand
 abbrev pub nothing_known : Known
 nothing_known = record { kind = kind.Nil; value = None; class = None }
 
+-- what is known of the operand of a number
 abbrev pub known_at : List Known → ℕ → Known
 known_at knowns i = unwrap_or (slice_get knowns i) nothing_known
 
--- what the language answers, of what is known of the operands, the target first
+-- what the language answers, by what is known of the operands, the target first
 abbrev pub own_node : Functions → Binder → List Known → Node
 own_node functions (binder.GetMember name ignore_case) knowns = member_node name (known_at knowns 0).kind
 own_node functions (binder.SetMember name ignore_case) knowns = Throw (NoMember name)
@@ -121,9 +133,36 @@ own_node functions (binder.DeleteMember name ignore_case) knowns = Throw (NoMemb
 own_node functions binder.GetIndex knowns = index_node (known_at knowns 0).kind (known_at knowns 1).kind
 own_node functions binder.SetIndex knowns = Throw (NotIndexable (known_at knowns 0).kind)
 own_node functions binder.DeleteIndex knowns = Throw (NotIndexable (known_at knowns 0).kind)
-own_node functions (binder.Invoke info) knowns = invoke_node functions info (known_at knowns 0).kind (known_at knowns 0).value
+own_node functions (binder.Invoke info) knowns =
+    invoke_node functions info (known_at knowns 0).kind (known_at knowns 0).value
 own_node functions (binder.InvokeMember name ignore_case info) knowns = Throw (NoMember name)
-own_node functions (binder.CreateInstance info) knowns = create_node functions info (known_at knowns 0).kind (known_at knowns 0).value
+own_node functions (binder.CreateInstance info) knowns =
+    create_node functions info (known_at knowns 0).kind (known_at knowns 0).value
 own_node functions (binder.Convert to) knowns = convert_node (known_at knowns 0).kind to
 own_node functions (binder.UnaryOperation o) knowns = unary_node o (known_at knowns 0).kind
 own_node functions (binder.BinaryOperation o) knowns = binary_node o (known_at knowns 0).kind (known_at knowns 1).kind
+
+-- of a function that is known, its parameters are claimed; of a class nothing is
+abbrev pub called_claim : Functions → Option Value → Claim
+called_claim functions (Some (value.Fun f)) =
+    record { class = None; fun = Some (record { number = f; params = parameters_of functions f }) }
+called_claim functions _ = record { class = None; fun = None }
+
+-- what the answer rests on: where the target is called or makes an object, on the parameters of the function that it is
+abbrev pub own_claim : Functions → List Known → Binder → Claim
+own_claim functions knowns (binder.Invoke info) = called_claim functions (known_at knowns 0).value
+own_claim functions knowns (binder.CreateInstance info) = called_claim functions (known_at knowns 0).value
+own_claim functions knowns _ = record { class = None; fun = None }
+
+-- it is no object, and no class of it is looked at
+pub record IsOther (k : Known) : Type 0 where
+  pub kind : same_kind k.kind kind.Obj ≡ false
+  pub class : k.class ≡ None
+
+-- Something is known of each operand of the binder, of which the target of an operation on members is no object. A value
+-- that is there has its kind, and is there of functions and texts; the functions are those of the language.
+pub record AreKnown (functions : Functions) (b : Binder) (knowns : List Known) : Type 0 where
+  pub count : length knowns ≡ operand_count_of b
+  pub other : (k : Known) → is_on_members b ≡ true → slice_get knowns 0 ≡ Some k → IsOther k
+  pub valued : (i : ℕ) (k : Known) → slice_get knowns i ≡ Some k → IsValueFor k.kind k.value
+  pub callable : (i : ℕ) (k : Known) → slice_get knowns i ≡ Some k → IsTrue (is_callable functions k.value)
