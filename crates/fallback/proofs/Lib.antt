@@ -1,0 +1,4 @@
+pub mod KnownMetas
+pub mod OwnAnswers
+pub mod OwnNodes
+pub mod OwnSoundness
