@@ -1,6 +1,6 @@
 -- What the language answers of its own is what the operation gives, by what is known of its operands.
-use Rattle.std.proofs.Common.{◌≡◌, ◌<◌, ℕ, Bool, true, false, ◌&&◌, List, [], ◌∷◌, length, Option, None, Some, Ok, Err, Result, refl, sym, ◌∙◌, ap, subst, nat_lt, cond, slice_get, unwrap_or, eqb-true, arith, pos}
-use Rattle.std.specs.Prelude.{codes, ℤ}
+use Rattle.std.proofs.Common.{◌≡◌, ◌<◌, ℕ, Bool, true, false, ◌&&◌, List, [], ◌∷◌, length, Option, None, Some, Err, Result, refl, sym, ◌∙◌, ap, subst, nat_lt, cond, slice_get, unwrap_or, eqb-true, arith}
+use Rattle.std.specs.Prelude.{ℤ}
 use Rattle.std.specs.declared.cmp.Ordering.{Ordering}
 use Rattle.std.specs.Ordering.{is_ge, is_gt, is_le, is_lt}
 use Rattle.std.proofs.lemmas.Bool.{and_from}
@@ -22,16 +22,14 @@ use Rattle.dyn_value.specs.Conversions.{convert_of}
 use Rattle.dyn_value.specs.Kinds.{kind_of, same_kind}
 use Rattle.dyn_value.specs.Operations.{unary_of, binary_of, char_of, length_of, on_numbers, on_ordered, on_truths, sum_of}
 use Rattle.dyn_value.specs.Outcomes.{at, outcome_of}
-use Rattle.expr_tree.specs.declared.node.Node.{Node}
 use Rattle.expr_tree.specs.declared.node.Node.TheVariants.{Unary, Binary, Convert, Length, CharAt, Throw}
-use Rattle.expr_tree.specs.Meanings.{State, IsThere, is_fun, passes_there}
+use Rattle.expr_tree.specs.Meanings.{State, is_fun, passes_there}
 use Rattle.object_model.specs.Plain.{called, created, index_of, invoked, member_of}
-use Rattle.rule_model.specs.declared.claim.Claim.{Claim}
 use Rattle.rule_model.specs.Claims.{FunHolds}
 use Rattle.rule_model.specs.Soundness.{Answers}
 use Rattle.standard_binders.specs.Arguments.{Arguments}
 use Rattle.standard_binders.specs.Functions.{Functions, parameters_of}
-use Rattle.fallback.specs.Own.{are_numbers, are_ordered, are_truths, binary_node, called_claim, char_node, convert_node, create_node, index_node, invoke_node, is_binary_on, is_convertible, is_length, is_unary_on, member_node, node_giving, unary_node}
+use Rattle.fallback.specs.Own.{are_numbers, are_ordered, are_truths, binary_node, called_claim, char_node, convert_node, create_node, invoke_node, is_binary_on, is_convertible, is_length, is_unary_on, member_node, node_giving, unary_node}
 
 same_as : (j k : Kind) → same_kind j k ≡ true → j ≡ k
 same_as kind.Nil kind.Nil e = refl

@@ -1,5 +1,5 @@
 -- The nodes of the language's own answers: each gives an answer by itself, and moves no object to another class.
-use Rattle.std.proofs.Common.{◌≡◌, ℕ, Bool, true, false, List, [], ◌∷◌, Option, None, Some, IsTrue, refl, cond}
+use Rattle.std.proofs.Common.{◌≡◌, Bool, true, false, List, Option, None, Some, IsTrue, refl, cond}
 use Rattle.dyn_value.specs.declared.outcome.Outcome.{Outcome}
 use Rattle.dyn_value.specs.declared.outcome.Outcome.TheVariants as outcome
 use Rattle.dyn_value.specs.declared.value.Kind.{Kind}

@@ -1,5 +1,5 @@
 -- What the language answers of its own is sound.
-use Rattle.std.proofs.Common.{◌≡◌, ℕ, Bool, true, false, ◌&&◌, List, [], ◌∷◌, length, Option, None, Some, IsTrue, refl, sym, ◌∙◌, ap, subst, cond, slice_get, arith}
+use Rattle.std.proofs.Common.{◌≡◌, ℕ, Bool, true, false, List, [], ◌∷◌, Option, None, Some, refl, sym, ◌∙◌, ap, subst, cond, arith}
 use Rattle.std.proofs.lemmas.Bool.{and_parts}
 use Rattle.dyn_value.specs.declared.fault.Fault.TheVariants.{NoMember, NotCallable, NotCreatable, NotIndexable}
 use Rattle.dyn_value.specs.declared.operator.UnOp.{UnOp}
@@ -29,8 +29,8 @@ use Rattle.standard_binders.specs.Arguments.{Arguments}
 use Rattle.standard_binders.specs.Binders.{is_on_members, operand_count_of}
 use Rattle.standard_binders.specs.declared.binder.Binder.{Binder}
 use Rattle.standard_binders.specs.declared.binder.Binder.TheVariants as binder
-use Rattle.standard_binders.specs.Functions.{Functions, parameters_of}
-use Rattle.fallback.specs.Own.{AreKnown, IsOther, binary_node, called_claim, char_node, convert_node, create_node, index_node, invoke_node, known_at, member_node, own_claim, own_node, unary_node}
+use Rattle.standard_binders.specs.Functions.{Functions}
+use Rattle.fallback.specs.Own.{AreKnown, IsOther, binary_node, called_claim, char_node, convert_node, create_node, invoke_node, known_at, own_claim, own_node, unary_node}
 use Rattle.fallback.proofs.OwnAnswers.{IsOf, binary_answers, char_answers, convert_answers, fun_at, fun_create_answers, fun_invoke_answers, index_answers, is_of, member_answers, other_create_answers, other_invoke_answers, throws, unary_answers}
 use Rattle.fallback.proofs.OwnNodes.{own_moves}
 

@@ -159,8 +159,8 @@ pub record IsOther (k : Known) : Type 0 where
   pub kind : same_kind k.kind kind.Obj ≡ false
   pub class : k.class ≡ None
 
--- Something is known of each operand of the binder, of which the target of an operation on members is no object. A value
--- that is there has its kind, and is there of functions and texts; the functions are those of the language.
+-- Something is known of each operand of the binder, and of the target of an operation on members that it is no object.
+-- A value that is there has its kind, and is there of functions and texts; the functions are those of the language.
 pub record AreKnown (functions : Functions) (b : Binder) (knowns : List Known) : Type 0 where
   pub count : length knowns ≡ operand_count_of b
   pub other : (k : Known) → is_on_members b ≡ true → slice_get knowns 0 ≡ Some k → IsOther k
