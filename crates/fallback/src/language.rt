@@ -1,7 +1,8 @@
 //! The twelve fallbacks of the script language.
-ghost use Rattle.std.specs.Prelude.{IfOk, IsTrue};
-ghost use Rattle.meta_object.specs.Bindings.{IsBinding, IsFallback};
+ghost use Rattle.std.specs.Prelude.{IfOk};
+ghost use Rattle.meta_object.specs.Bindings.{IsBinding, IsFallback, IsSuggestion};
 ghost use Rattle.meta_object.specs.Contexts.{KeepsContext};
+ghost use Rattle.meta_object.specs.Metas.{CanBind};
 ghost use Rattle.fallback.specs.Answers.{IsOwnFirst};
 
 use crate::script::Script;
@@ -26,6 +27,8 @@ impl Language for Script {
         metas: &[MetaObject],
         suggestion: Option<Bound>,
     ) -> Result<Bound, AllocError>
+        requires can { CanBind self.now.functions.params cx.old.table.now cx.old.pass.now binder.now metas.now }
+        requires suggestion { IsSuggestion self.now.functions.params cx.old.pass.now binder.now metas.now suggestion }
         ensures bound { IfOk result (IsBinding self.now.functions.params cx.new.pass.now binder.now metas.now) }
         ensures answer { IfOk result (IsFallback binder.now metas.now suggestion) }
         ensures first { IfOk result (IsOwnFirst self.now.functions.params cx.new.pass.now binder.now metas.now suggestion) }
@@ -43,6 +46,8 @@ impl Language for Script {
         metas: &[MetaObject],
         suggestion: Option<Bound>,
     ) -> Result<Bound, AllocError>
+        requires can { CanBind self.now.functions.params cx.old.table.now cx.old.pass.now binder.now metas.now }
+        requires suggestion { IsSuggestion self.now.functions.params cx.old.pass.now binder.now metas.now suggestion }
         ensures bound { IfOk result (IsBinding self.now.functions.params cx.new.pass.now binder.now metas.now) }
         ensures answer { IfOk result (IsFallback binder.now metas.now suggestion) }
         ensures first { IfOk result (IsOwnFirst self.now.functions.params cx.new.pass.now binder.now metas.now suggestion) }
@@ -60,6 +65,8 @@ impl Language for Script {
         metas: &[MetaObject],
         suggestion: Option<Bound>,
     ) -> Result<Bound, AllocError>
+        requires can { CanBind self.now.functions.params cx.old.table.now cx.old.pass.now binder.now metas.now }
+        requires suggestion { IsSuggestion self.now.functions.params cx.old.pass.now binder.now metas.now suggestion }
         ensures bound { IfOk result (IsBinding self.now.functions.params cx.new.pass.now binder.now metas.now) }
         ensures answer { IfOk result (IsFallback binder.now metas.now suggestion) }
         ensures first { IfOk result (IsOwnFirst self.now.functions.params cx.new.pass.now binder.now metas.now suggestion) }
@@ -77,6 +84,8 @@ impl Language for Script {
         metas: &[MetaObject],
         suggestion: Option<Bound>,
     ) -> Result<Bound, AllocError>
+        requires can { CanBind self.now.functions.params cx.old.table.now cx.old.pass.now binder.now metas.now }
+        requires suggestion { IsSuggestion self.now.functions.params cx.old.pass.now binder.now metas.now suggestion }
         ensures bound { IfOk result (IsBinding self.now.functions.params cx.new.pass.now binder.now metas.now) }
         ensures answer { IfOk result (IsFallback binder.now metas.now suggestion) }
         ensures first { IfOk result (IsOwnFirst self.now.functions.params cx.new.pass.now binder.now metas.now suggestion) }
@@ -94,6 +103,8 @@ impl Language for Script {
         metas: &[MetaObject],
         suggestion: Option<Bound>,
     ) -> Result<Bound, AllocError>
+        requires can { CanBind self.now.functions.params cx.old.table.now cx.old.pass.now binder.now metas.now }
+        requires suggestion { IsSuggestion self.now.functions.params cx.old.pass.now binder.now metas.now suggestion }
         ensures bound { IfOk result (IsBinding self.now.functions.params cx.new.pass.now binder.now metas.now) }
         ensures answer { IfOk result (IsFallback binder.now metas.now suggestion) }
         ensures first { IfOk result (IsOwnFirst self.now.functions.params cx.new.pass.now binder.now metas.now suggestion) }
@@ -111,6 +122,8 @@ impl Language for Script {
         metas: &[MetaObject],
         suggestion: Option<Bound>,
     ) -> Result<Bound, AllocError>
+        requires can { CanBind self.now.functions.params cx.old.table.now cx.old.pass.now binder.now metas.now }
+        requires suggestion { IsSuggestion self.now.functions.params cx.old.pass.now binder.now metas.now suggestion }
         ensures bound { IfOk result (IsBinding self.now.functions.params cx.new.pass.now binder.now metas.now) }
         ensures answer { IfOk result (IsFallback binder.now metas.now suggestion) }
         ensures first { IfOk result (IsOwnFirst self.now.functions.params cx.new.pass.now binder.now metas.now suggestion) }
@@ -128,6 +141,8 @@ impl Language for Script {
         metas: &[MetaObject],
         suggestion: Option<Bound>,
     ) -> Result<Bound, AllocError>
+        requires can { CanBind self.now.functions.params cx.old.table.now cx.old.pass.now binder.now metas.now }
+        requires suggestion { IsSuggestion self.now.functions.params cx.old.pass.now binder.now metas.now suggestion }
         ensures bound { IfOk result (IsBinding self.now.functions.params cx.new.pass.now binder.now metas.now) }
         ensures answer { IfOk result (IsFallback binder.now metas.now suggestion) }
         ensures first { IfOk result (IsOwnFirst self.now.functions.params cx.new.pass.now binder.now metas.now suggestion) }
@@ -145,6 +160,8 @@ impl Language for Script {
         metas: &[MetaObject],
         suggestion: Option<Bound>,
     ) -> Result<Bound, AllocError>
+        requires can { CanBind self.now.functions.params cx.old.table.now cx.old.pass.now binder.now metas.now }
+        requires suggestion { IsSuggestion self.now.functions.params cx.old.pass.now binder.now metas.now suggestion }
         ensures bound { IfOk result (IsBinding self.now.functions.params cx.new.pass.now binder.now metas.now) }
         ensures answer { IfOk result (IsFallback binder.now metas.now suggestion) }
         ensures first { IfOk result (IsOwnFirst self.now.functions.params cx.new.pass.now binder.now metas.now suggestion) }
@@ -162,6 +179,8 @@ impl Language for Script {
         metas: &[MetaObject],
         suggestion: Option<Bound>,
     ) -> Result<Bound, AllocError>
+        requires can { CanBind self.now.functions.params cx.old.table.now cx.old.pass.now binder.now metas.now }
+        requires suggestion { IsSuggestion self.now.functions.params cx.old.pass.now binder.now metas.now suggestion }
         ensures bound { IfOk result (IsBinding self.now.functions.params cx.new.pass.now binder.now metas.now) }
         ensures answer { IfOk result (IsFallback binder.now metas.now suggestion) }
         ensures first { IfOk result (IsOwnFirst self.now.functions.params cx.new.pass.now binder.now metas.now suggestion) }
@@ -179,6 +198,8 @@ impl Language for Script {
         metas: &[MetaObject],
         suggestion: Option<Bound>,
     ) -> Result<Bound, AllocError>
+        requires can { CanBind self.now.functions.params cx.old.table.now cx.old.pass.now binder.now metas.now }
+        requires suggestion { IsSuggestion self.now.functions.params cx.old.pass.now binder.now metas.now suggestion }
         ensures bound { IfOk result (IsBinding self.now.functions.params cx.new.pass.now binder.now metas.now) }
         ensures answer { IfOk result (IsFallback binder.now metas.now suggestion) }
         ensures first { IfOk result (IsOwnFirst self.now.functions.params cx.new.pass.now binder.now metas.now suggestion) }
@@ -196,6 +217,8 @@ impl Language for Script {
         metas: &[MetaObject],
         suggestion: Option<Bound>,
     ) -> Result<Bound, AllocError>
+        requires can { CanBind self.now.functions.params cx.old.table.now cx.old.pass.now binder.now metas.now }
+        requires suggestion { IsSuggestion self.now.functions.params cx.old.pass.now binder.now metas.now suggestion }
         ensures bound { IfOk result (IsBinding self.now.functions.params cx.new.pass.now binder.now metas.now) }
         ensures answer { IfOk result (IsFallback binder.now metas.now suggestion) }
         ensures first { IfOk result (IsOwnFirst self.now.functions.params cx.new.pass.now binder.now metas.now suggestion) }
@@ -213,6 +236,8 @@ impl Language for Script {
         metas: &[MetaObject],
         suggestion: Option<Bound>,
     ) -> Result<Bound, AllocError>
+        requires can { CanBind self.now.functions.params cx.old.table.now cx.old.pass.now binder.now metas.now }
+        requires suggestion { IsSuggestion self.now.functions.params cx.old.pass.now binder.now metas.now suggestion }
         ensures bound { IfOk result (IsBinding self.now.functions.params cx.new.pass.now binder.now metas.now) }
         ensures answer { IfOk result (IsFallback binder.now metas.now suggestion) }
         ensures first { IfOk result (IsOwnFirst self.now.functions.params cx.new.pass.now binder.now metas.now suggestion) }

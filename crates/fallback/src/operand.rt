@@ -1,10 +1,13 @@
 //! What is known of operands.
-ghost use Rattle.std.specs.Prelude.{◌≡◌, ◌<◌, IsTrue, Some, length, map};
+ghost use Rattle.std.specs.Prelude.{◌≡◌, ◌<◌, Some, length, map, slice_get};
 ghost use Rattle.std.specs.Option.{option_copied};
 ghost use Rattle.object_model.specs.Accesses as accesses;
 ghost use Rattle.meta_object.specs.Metas.{kind_in, known_in, class_in_shape};
 ghost use Rattle.fallback.specs.Own.{known_at};
 ghost use Rattle.fallback.specs.Answers as spec;
+ghost use Rattle.standard_binders.specs.Binders.{operand_count_of};
+ghost use Rattle.meta_object.specs.Reaching as reaching;
+ghost use Rattle.meta_object.specs.Reaching.{text_in};
 
 use dyn_value::{DynText, Kind, Value};
 use expando_class::ClassRef;
@@ -17,6 +20,7 @@ const MOST_NAME_BYTES: usize = 64;
 /// The metaobject of the operand at this place.
 pub(crate) fn operand(metas: &[MetaObject], place: usize) -> &MetaObject
     requires { place < length metas.now }
+    ensures there { slice_get metas.now place ≡ Some result.now }
     ensures known { known_at (map known_in metas.now) place ≡ known_in result.now }
 {
     &metas[place]
@@ -40,6 +44,32 @@ pub(crate) fn object_class<'a>(binder: &Binder, metas: &'a [MetaObject]) -> Opti
         metas.first()?.shape.class()
     } else {
         None
+    }
+}
+
+/// The name of the member that an operation reaches: that which the binder carries, or the key of an index where it is a
+/// text.
+pub(crate) fn reached_name<'a>(binder: &'a Binder, metas: &'a [MetaObject]) -> Option<&'a DynText>
+    requires { length metas.now ≡ operand_count_of binder.now }
+    ensures { option_copied result ≡ reaching.reached_name binder.now metas.now }
+{
+    match binder {
+        Binder::GetMember { name, .. }
+        | Binder::SetMember { name, .. }
+        | Binder::DeleteMember { name, .. }
+        | Binder::InvokeMember { name, .. } => Some(name),
+        Binder::GetIndex | Binder::SetIndex | Binder::DeleteIndex => text_in(operand(metas, 1)),
+        _ => None,
+    }
+}
+
+/// The text that an operand is; none of another value.
+fn text_in(meta: &MetaObject) -> Option<&DynText>
+    ensures { option_copied result ≡ reaching.text_in meta.now.value }
+{
+    match &meta.value {
+        Some(Value::Text(text)) => Some(text),
+        _ => None,
     }
 }
 

@@ -1,22 +1,15 @@
 //! What the language answers of its own.
-ghost use Rattle.std.specs.Prelude.{◌≡◌, ◌∷◌, [], false, IfOk, IfSome, IsTrue, MatchOption, Some};
-ghost use Rattle.expando_class.specs.declared.pass.ClassPass.{ClassPass};
-ghost use Rattle.expr_tree.specs.Trees.{root};
-ghost use Rattle.object_model.specs.Accesses as accesses;
-ghost use Rattle.standard_binders.specs.Functions.{Functions};
-ghost use Rattle.rule_model.specs.MemberAnswers.{is_by_key};
-ghost use Rattle.meta_object.specs.Bindings.{HasTests, IsBinding};
+ghost use Rattle.std.specs.Prelude.{◌≡◌, ◌∷◌, [], false, IfOk, IsTrue, None, Some};
+ghost use Rattle.restrictions.specs.Sets.{is_in, operand_fits};
 ghost use Rattle.meta_object.specs.Contexts.{KeepsContext};
-ghost use Rattle.meta_object.specs.Metas.{CanBind, has_key};
-ghost use Rattle.meta_object.specs.Reaching as reaching;
-ghost use Rattle.meta_object.specs.Reaching.{key_in};
+ghost use Rattle.meta_object.specs.Metas.{CanBind};
 ghost use Rattle.fallback.specs.Answers as spec;
 ghost use Rattle.fallback.specs.Answers.{IsOwn};
 
-use crate::operand::{is_key, kind, object_class};
-use crate::row_tests::kinds;
+use crate::operand::{is_key, kind, object_class, operand, reached_name};
 use crate::rows::row_bound;
-use dyn_value::{DynText, Fault, Kind, Value};
+use dyn_value::{Fault, Kind};
+use expando_class::ClassRef;
 use expr_tree::{Body, Node};
 use meta_object::{BindContext, Bound, MetaObject, member_bound};
 use restrictions::{Restriction, Restrictions};
@@ -39,55 +32,60 @@ pub(crate) fn own_bound<R: Wait>(
     ensures own { IfOk result (IsOwn functions.now.params cx.new.pass.now binder.now metas.now) }
     ensures context { KeepsContext cx.old cx.new }
 {
-    let Some(class) = object_class(binder, metas) else {
-        return row_bound(alloc, functions, binder, metas);
-    };
-    match reached_name(binder, metas) {
-        Some(name) => member_bound(alloc, rt, cx, binder, class, name),
-        None => no_key_bound(alloc, metas),
+    match object_class(binder, metas) {
+        Some(class) => object_bound(alloc, rt, functions, cx, binder, metas, class),
+        None => {
+            let own = row_bound(alloc, functions, binder, metas)?;
+            Ok(own)
+        }
     }
 }
 
-/// The name that a binder carries, or the key of an index where it may be one.
-fn reached_name<'a>(binder: &'a Binder, metas: &'a [MetaObject]) -> Option<&'a DynText>
-    requires { IsTrue (has_key binder.now) }
+/// The bound of an operation on a member of an object of this class.
+fn object_bound<R: Wait>(
+    alloc: Global,
+    rt: &R,
+    functions: &FunTable,
+    cx: &mut BindContext,
+    binder: &Binder,
+    metas: &[MetaObject],
+    class: &ClassRef,
+) -> Result<Bound, AllocError>
+    requires can { CanBind functions.now.params cx.old.table.now cx.old.pass.now binder.now metas.now }
+    requires class { spec.object_class binder.now metas.now ≡ Some class.now }
+    ensures own { IfOk result (IsOwn functions.now.params cx.new.pass.now binder.now metas.now) }
+    ensures context { KeepsContext cx.old cx.new }
 {
-    match binder {
-        Binder::GetMember { name, .. }
-        | Binder::SetMember { name, .. }
-        | Binder::DeleteMember { name, .. }
-        | Binder::InvokeMember { name, .. } => Some(name),
-        _ => match key_text(metas) {
-            Some(key) if is_key(key) => Some(key),
-            _ => None,
-        },
+    match reached_name(binder, metas) {
+        Some(name) if is_key(name) => {
+            let own = member_bound(alloc, rt, cx, binder, class, name)?;
+            Ok(own)
+        }
+        Some(_) => {
+            let long = no_key_bound(alloc, Restriction::LongKey(1))?;
+            Ok(long)
+        }
+        None => {
+            let other = no_key_bound(alloc, Restriction::Kind(1, kind(operand(metas, 1))))?;
+            Ok(other)
+        }
     }
 }
 
-/// The text that is the key of an index.
-fn key_text(metas: &[MetaObject]) -> Option<&DynText> {
-    match &metas.get(1)?.value {
-        Some(Value::Text(key)) => Some(key),
-        _ => None,
-    }
-}
-
-/// The bound of an index operation on an object by a key that names no member. The one error is want of memory.
-fn no_key_bound(alloc: Global, metas: &[MetaObject]) -> Result<Bound, AllocError> {
+/// The bound of an index operation on an object by a key that names no member. The test is that of the key.
+fn no_key_bound(alloc: Global, test: Restriction) -> Result<Bound, AllocError>
+    requires new { is_in test (Restriction.Kind 0 Kind.Obj ∷ []) ≡ false }
+    requires operand { IsTrue (operand_fits test) }
+    ensures tests { IfOk result (λ bound. bound.restrictions ≡ Restriction.Kind 0 Kind.Obj ∷ test ∷ []) }
+    ensures body { IfOk result (λ bound. bound.body ≡ Node.Throw Fault.NoIndex ∷ []) }
+    ensures claim { IfOk result (λ bound. bound.claim ≡ record { class = None; fun = None }) }
+{
     Ok(Bound {
-        restrictions: no_key_tests(alloc, metas)?,
+        restrictions: Restrictions::kind(alloc, 0, Kind::Obj)?.and(test)?,
         body: Body::single(alloc, Node::Throw(Fault::NoIndex))?,
         claim: Claim {
             class: None,
             fun: None,
         },
     })
-}
-
-/// Of a long text that it is long, and of another key its kind.
-fn no_key_tests(alloc: Global, metas: &[MetaObject]) -> Result<Restrictions, AllocError> {
-    match key_text(metas) {
-        Some(_) => Restrictions::kind(alloc, 0, Kind::Obj)?.and(Restriction::LongKey(1)),
-        None => kinds(alloc, Kind::Obj, kind(&metas[1])),
-    }
 }

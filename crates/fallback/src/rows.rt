@@ -1,11 +1,9 @@
 //! What the language answers of its own where it looks at no object: a row for each operation.
-ghost use Rattle.std.specs.Prelude.{◌≡◌, ◌∷◌, [], IfOk, length, map};
-ghost use Rattle.expando_class.specs.declared.pass.ClassPass.{ClassPass};
-ghost use Rattle.rule_model.specs.Tests.{form_of, tests_by};
+ghost use Rattle.std.specs.Prelude.{◌≡◌, ◌∷◌, [], IfOk, codes, length, map};
+ghost use Rattle.std.specs.Str.{bytes_eq};
 ghost use Rattle.standard_binders.specs.Binders.{operand_count_of};
-ghost use Rattle.meta_object.specs.Bindings.{HasTests, IsBinding};
-ghost use Rattle.meta_object.specs.Metas.{kind_in, known_in};
-ghost use Rattle.fallback.specs.Answers.{object_class};
+ghost use Rattle.meta_object.specs.Bindings.{HasTests};
+ghost use Rattle.meta_object.specs.Metas.{known_in};
 ghost use Rattle.fallback.specs.Own as spec;
 ghost use Rattle.fallback.specs.Own.{AreKnown};
 
@@ -29,11 +27,11 @@ pub(crate) fn row_bound(
 ) -> Result<Bound, AllocError>
     requires count { length metas.now ≡ operand_count_of binder.now }
     requires known { AreKnown functions.now.params binder.now (map known_in metas.now) }
-    ensures binding { IfOk result (λ bound. (pass : ClassPass) →
-        IsBinding functions.now.params pass binder.now metas.now bound) }
     ensures tests { IfOk result (HasTests binder.now metas.now) }
     ensures body { IfOk result (λ bound.
         bound.body ≡ spec.own_node functions.now.params binder.now (map known_in metas.now) ∷ []) }
+    ensures claim { IfOk result (λ bound.
+        bound.claim ≡ spec.own_claim functions.now.params (map known_in metas.now) binder.now) }
 {
     let node = row_node(functions, binder, metas)?;
     Ok(Bound {
@@ -74,17 +72,17 @@ fn row_node(functions: &FunTable, binder: &Binder, metas: &[MetaObject]) -> Resu
 fn member_node(name: &DynText, kind: Kind) -> Result<Node, AllocError>
     ensures { IfOk result (λ node. node ≡ spec.member_node name.now kind) }
 {
-    if is_length(name, kind) {
-        Ok(Node::Length(0))
-    } else {
-        Ok(Node::Throw(Fault::NoMember(name.copy()?)))
+    match kind {
+        Kind::Text if is_length(name) => Ok(Node::Length(0)),
+        _ => Ok(Node::Throw(Fault::NoMember(name.copy()?))),
     }
 }
 
-fn is_length(name: &DynText, kind: Kind) -> bool
-    ensures { result ≡ spec.is_length name.now kind }
+/// Whether a name is that of the one member of texts.
+fn is_length(name: &DynText) -> bool
+    ensures { result ≡ bytes_eq name.now (codes "length") }
 {
-    kind == Kind::Text && name.as_str() == "length"
+    name.as_str() == "length"
 }
 
 /// The node that reads a value of this kind, which is no object, at a key of the other.
