@@ -83,7 +83,7 @@ fn is_by_key(binder: &Binder) -> bool
 }
 
 /// What is suggested in the place of a fault, and else the language's own bound.
-fn answer(own: Bound, suggested: Bound) -> Bound
+pub(crate) fn answer(own: Bound, suggested: Bound) -> Bound
     ensures { result ≡ answer_of own (Some suggested) }
 {
     if throws(own.body.root()) {
