@@ -1,5 +1,5 @@
 -- The member of a name by its place among the names and the values.
-use Rattle.std.proofs.Common.{◌≡◌, ◌≢◌, ◌<◌, ℕ, zero, suc, Bool, true, false, List, [], ◌∷◌, length, map, None, Some, refl, sym, ◌∙◌, ap, subst, arith, slice_set, slice_get}
+use Rattle.std.proofs.Common.{◌≡◌, ◌≢◌, ◌<◌, ℕ, zero, suc, Bool, true, false, List, [], ◌∷◌, length, map, None, Some, refl, ap, subst, arith, slice_set, slice_get}
 use Rattle.std.specs.List.{All, AllByRecursion, IsDistinct, remove}
 use Rattle.std.specs.Str.{bytes_eq}
 use Rattle.std.proofs.lemmas.List.Elements.{All-head, All-tail}

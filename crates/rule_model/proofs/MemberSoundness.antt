@@ -1,7 +1,5 @@
 -- What is answered on members is sound.
-use Rattle.std.proofs.Common.{◌≡◌, ℕ, Bool, true, false, ◌&&◌, not, IsTrue, List, [], ◌∷◌, length, Option, None, Some, refl, sym, ◌∙◌, ap, subst, nat_lt, nat_le, nat_eq, cond, slice_get, eqb-true, encode_utf8_all, arith}
-use Rattle.std.specs.List.{list_all}
-use Rattle.std.specs.Str.{bytes_eq}
+use Rattle.std.proofs.Common.{◌≡◌, ℕ, Bool, true, false, ◌&&◌, not, List, [], ◌∷◌, length, Option, None, Some, refl, sym, ◌∙◌, ap, subst, nat_lt, nat_le, nat_eq, cond, slice_get, eqb-true, encode_utf8_all, arith}
 use Rattle.std.proofs.lemmas.Bool.{and_parts}
 use Rattle.std.proofs.lemmas.Bool.Decides.{nat_tests}
 use Rattle.std.proofs.lemmas.Slice.Eq.{bytes_eq-Decides}
@@ -14,7 +12,7 @@ use Rattle.dyn_value.specs.Kinds.{kind_of, same_kind}
 use Rattle.dyn_value.specs.Outcomes.{at}
 use Rattle.expr_tree.specs.declared.node.Node.{Node}
 use Rattle.expr_tree.specs.declared.node.Node.TheVariants.{Throw}
-use Rattle.expr_tree.specs.Meanings.{State, is_text, is_long, passes_there}
+use Rattle.expr_tree.specs.Meanings.{is_text, is_long, passes_there}
 use Rattle.expr_tree.specs.Trees.{root}
 use Rattle.restrictions.specs.declared.restriction.Restriction.{Restriction}
 use Rattle.restrictions.specs.declared.restriction.Restriction.TheVariants.{Kind as IsKind, Key, LongKey, Class}
@@ -23,16 +21,13 @@ use Rattle.standard_binders.specs.declared.binder.Binder.{Binder}
 use Rattle.standard_binders.specs.declared.binder.Binder.TheVariants as binder
 use Rattle.standard_binders.specs.Binders.{is_on_members}
 use Rattle.object_model.specs.Accesses.{Access, NoKey, Reads as Reading, Writes as Writing, Deletes as Deleting, access_of, is_key, keyed}
-use Rattle.object_model.specs.Members.{Members, AreMembers}
-use Rattle.object_model.specs.Steps.{step_by, fails}
+use Rattle.object_model.specs.Steps.{step_by}
 use Rattle.rule_model.specs.declared.claim.Claim.{Claim}
 use Rattle.rule_model.specs.declared.claim.ClassClaim.{ClassClaim}
 use Rattle.rule_model.specs.declared.reach.Reach.{Reach}
 use Rattle.rule_model.specs.declared.reach.Reach.TheVariants.{Reads, Writes, Deletes}
-use Rattle.rule_model.specs.Claims.{ClassHolds, class_after}
 use Rattle.rule_model.specs.MemberAnswers.{IsMemberAnswer, member_node, member_after, reach_of, name_of, is_by_key}
 use Rattle.rule_model.specs.Soundness.{IsSound, Does, is_object, looks_at_none, named_class}
-use Rattle.rule_model.specs.States.{HasMembers}
 use Rattle.rule_model.proofs.MemberSteps.{access_by, IsHandy, member_does}
 
 -- what an operation on a member reaches

@@ -1,7 +1,5 @@
 -- The node of an operation on a member does what the operation does.
-use Rattle.std.proofs.Common.{if◌then◌else◌, ◌≡◌, ◌<◌, ◌+◌, ℕ, Bool, true, false, IsTrue, List, [], ◌∷◌, ◌++◌, length, map, take, Option, None, Some, refl, sym, ◌∙◌, ap, subst, arith, nat_lt, nat_eq, slice_get}
-use Rattle.std.specs.List.{All, IsDistinct}
-use Rattle.std.specs.Str.{bytes_eq}
+use Rattle.std.proofs.Common.{if◌then◌else◌, ◌≡◌, ◌<◌, ℕ, Bool, true, false, List, [], ◌∷◌, ◌++◌, length, map, take, Option, None, Some, refl, sym, ◌∙◌, ap, subst, arith, nat_lt, nat_eq}
 use Rattle.std.proofs.lemmas.Bool.{and_from}
 use Rattle.std.proofs.lemmas.Bool.Decides.{nat_tests}
 use Rattle.std.proofs.lemmas.List.{map-append, length-map, length-append}
@@ -9,7 +7,6 @@ use Rattle.std.proofs.Math.Seq.{take-append_seam}
 use Rattle.dyn_value.specs.declared.value.Value.{Value}
 use Rattle.dyn_value.specs.declared.fault.Fault.TheVariants.{MembersFull}
 use Rattle.dyn_value.specs.Outcomes.{at}
-use Rattle.expr_tree.specs.declared.node.Node.{Node}
 use Rattle.expr_tree.specs.Meanings.{State}
 use Rattle.object_model.specs.Accesses.{Access, Reads as Reading, Writes as Writing, Deletes as Deleting}
 use Rattle.object_model.specs.Members.{Member, Members, AreMembers, member_name, value_of}

@@ -1,5 +1,5 @@
 -- What is said of all nodes of a body, of its root.
-use Rattle.std.proofs.Common.{◌≡◌, Bool, true, List, [], ◌∷◌, refl}
+use Rattle.std.proofs.Common.{◌≡◌, true, List, [], ◌∷◌, refl}
 use Rattle.std.specs.List.{AllByRecursion, list_all}
 use Rattle.std.proofs.lemmas.Bool.{and_parts}
 use Rattle.dyn_value.specs.declared.value.Value.{Value}

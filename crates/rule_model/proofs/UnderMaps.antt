@@ -2,21 +2,25 @@
 use Rattle.std.proofs.Common.{◌≡◌, ℕ, Bool, true, List, [], ◌∷◌, Option, None, Some, unwrap_or, refl, sym, ◌∙◌, ap, subst}
 use Rattle.dyn_value.specs.declared.value.Value.{Value}
 use Rattle.dyn_value.specs.declared.value.Value.TheVariants as value
+use Rattle.dyn_value.specs.declared.outcome.Outcome.{Outcome}
 use Rattle.expr_tree.specs.declared.node.Node.{Node}
 use Rattle.expr_tree.specs.declared.node.Node.TheVariants.{Append, Remove}
 use Rattle.expr_tree.specs.Meanings.{State, state_after}
 use Rattle.expr_tree.specs.Trees.{root}
+use Rattle.expr_tree.proofs.Plain.{state_plain}
 use Rattle.standard_binders.specs.declared.binder.Binder.{Binder}
 use Rattle.standard_binders.specs.Functions.{Functions}
 use Rattle.object_model.specs.Accesses.{Access, access_of}
 use Rattle.object_model.specs.Members.{Members, AreMembers}
-use Rattle.object_model.specs.Steps.{Step, step_by}
+use Rattle.object_model.specs.Plain.{plain_step}
+use Rattle.object_model.specs.Steps.{step_by}
 use Rattle.rule_model.specs.declared.claim.Claim.{Claim}
 use Rattle.rule_model.specs.declared.claim.ClassClaim.{ClassClaim}
 use Rattle.rule_model.specs.Claims.{ClassHolds, ListHolds, class_after}
-use Rattle.rule_model.specs.ClassMaps.{ClassMap, ClassHoldsIn, HoldsIn, DoesIn, IsSoundIn}
-use Rattle.rule_model.specs.Soundness.{IsSound, Does, named_class}
+use Rattle.rule_model.specs.ClassMaps.{ClassMap, ClassHoldsIn, HoldsIn, DoesIn, AnswersIn, IsSoundIn}
+use Rattle.rule_model.specs.Soundness.{IsSound, Answers, named_class}
 use Rattle.rule_model.specs.States.{HasMembers}
+use Rattle.rule_model.proofs.Roots.{plain_root}
 
 -- the names of the class after, and what holds of them
 record After (classes : ClassMap) (claim : Claim) (names : List (List ℕ)) : Type 0 where
@@ -63,10 +67,14 @@ does_in classes b test body claim s ms o arguments access sound after here has a
   names = moved_names classes (value.Obj o ∷ arguments) after.more s (root body) here (λ c e. after.there c (sound.moves ∙ e));
 }
 
+-- a body that leaves objects alone
+plain_in : (body : List Node) (operands : List Value) (s : State) (to : Outcome) → Answers body operands s to → AnswersIn body operands s to
+plain_in body operands s to answers = record { answers = answers; stays = λ more. state_plain operands more s (root body) (plain_root body answers.plain) }
+
 pub sound_in_maps : (b : Binder) (test : List Value → ℕ → Bool) (body : List Node) (claim : Claim) → IsSound b test body claim → IsSoundIn b test body claim
 sound_in_maps b test body claim sound = record {
   object = λ classes functions s ms o arguments access holds here has are reaches passes.
       does_in classes b test body claim s ms o arguments access sound
       (after_in classes functions claim s.class s.names claim.class refl (λ c e. sound.guarded c (value.Obj o ∷ arguments) s.class e passes) holds here) here has are reaches passes;
-  plain = λ classes functions s operands holds here none suit passes. sound.plain functions s operands none suit passes holds.fun;
+  plain = λ classes functions s operands holds here none suit passes. plain_in body operands s (plain_step functions b operands) (sound.plain functions s operands none suit passes holds.fun);
 }

@@ -2,6 +2,7 @@
 use Rattle.std.specs.Prelude.{◌≡◌, ℕ, true, Bool, List, ◌∷◌, Option, Some, unwrap_or}
 use Rattle.dyn_value.specs.declared.value.Value.{Value}
 use Rattle.dyn_value.specs.declared.value.Value.TheVariants as value
+use Rattle.dyn_value.specs.declared.outcome.Outcome.{Outcome}
 use Rattle.expr_tree.specs.declared.node.Node.{Node}
 use Rattle.expr_tree.specs.Meanings.{State, state_after}
 use Rattle.expr_tree.specs.Trees.{root}
@@ -44,6 +45,11 @@ pub record DoesIn (classes : ClassMap) (body : List Node) (claim : Claim) (opera
   pub names : classes (state_after operands more s (root body)).class
       ≡ Some (state_after operands more s (root body)).names
 
+-- The body answers this, and leaves the object of this state alone.
+pub record AnswersIn (body : List Node) (operands : List Value) (s : State) (to : Outcome) : Type 0 where
+  pub answers : Answers body operands s to
+  pub stays : (more : List (List ℕ)) → state_after operands more s (root body) ≡ s
+
 -- Whatever the classes and the functions are under which the claim holds: wherever the test is true of operands that
 -- suit the binder and of the class of a state whose names are those of its class, the body does what the operation does.
 pub record IsSoundIn (b : Binder) (test : List Value → ℕ → Bool) (body : List Node) (claim : Claim) : Type 0 where
@@ -54,4 +60,4 @@ pub record IsSoundIn (b : Binder) (test : List Value → ℕ → Bool) (body : L
   pub plain : (classes : ClassMap) (functions : Functions) (s : State) (operands : List Value)
       → HoldsIn classes functions claim → classes s.class ≡ Some s.names
       → looks_at_none b operands ≡ true → Suit b operands → test operands s.class ≡ true
-      → Answers body operands s (plain_step functions b operands)
+      → AnswersIn body operands s (plain_step functions b operands)
