@@ -1,5 +1,5 @@
 -- The answer is a binding, and looks at what its tests look at or is what is suggested.
-use Rattle.std.proofs.Common.{◌≡◌, ◌⊎◌, ℕ, Bool, true, false, List, MatchOption, Option, None, Some, IsSomeAnd, refl, sym, ◌∙◌, ap, subst, inl, inr}
+use Rattle.std.proofs.Common.{◌≡◌, ℕ, Bool, true, false, List, Option, None, Some, IsSomeAnd, refl}
 use Rattle.expando_class.specs.declared.class.ClassRef.{ClassRef}
 use Rattle.expando_class.specs.declared.pass.ClassPass.{ClassPass}
 use Rattle.expando_class.specs.Class.{number_of, names_of}
@@ -11,9 +11,9 @@ use Rattle.rule_model.specs.declared.claim.ClassClaim.{ClassClaim}
 use Rattle.rule_model.specs.Claims.{ListHolds}
 use Rattle.meta_object.specs.declared.bound.Bound.{Bound}
 use Rattle.meta_object.specs.declared.meta.MetaObject.{MetaObject}
-use Rattle.meta_object.specs.Bindings.{HasTests, IsBinding, IsFallback, IsSuggestion}
+use Rattle.meta_object.specs.Bindings.{IsBinding}
 use Rattle.meta_object.specs.Metas.{target_class}
-use Rattle.fallback.specs.Answers.{IsFirst, IsOwn, answer_of, throws}
+use Rattle.fallback.specs.Answers.{IsOwn, answer_of, throws}
 
 -- what is claimed stays so where the pass knows more
 abbrev IsShown : ClassPass → ClassClaim → Option ClassRef → Type 0
@@ -42,27 +42,3 @@ chosen functions pass b metas own suggested false e is other = rw e is
 pub first_binding : (functions : Functions) (pass : ClassPass) (b : Binder) (metas : List MetaObject) (own suggested : Bound)
     → IsOwn functions pass b metas own → IsBinding functions pass b metas suggested → IsBinding functions pass b metas (answer_of own (Some suggested))
 first_binding functions pass b metas own suggested is other = chosen functions pass b metas own suggested (throws (root own.body)) refl is.binding other
-
-fallen : (functions : Functions) (pass : ClassPass) (b : Binder) (metas : List MetaObject) (own suggested : Bound) (faulty : Bool) → throws (root own.body) ≡ faulty
-    → HasTests b metas own → IsFallback b metas (Some suggested) (answer_of own (Some suggested))
-fallen functions pass b metas own suggested true e tests = inl (rw e refl)
-fallen functions pass b metas own suggested false e tests = inr (rw e tests)
-
-pub first_fallback : (functions : Functions) (pass : ClassPass) (b : Binder) (metas : List MetaObject) (own suggested : Bound)
-    → IsOwn functions pass b metas own → IsFallback b metas (Some suggested) (answer_of own (Some suggested))
-first_fallback functions pass b metas own suggested is = fallen functions pass b metas own suggested (throws (root own.body)) refl is.tests
-
--- where nothing is suggested the language's own bound is the answer
-pub alone : (named : Bool) (functions : Functions) (pass : ClassPass) (b : Binder) (metas : List MetaObject) (own : Bound) → IsOwn functions pass b metas own → IsFirst named functions pass b metas None own
-alone true functions pass b metas own is = is
-alone false functions pass b metas own is = (own, is, refl)
-
--- what is suggested of a member of an object that the binder names
-pub suggested_named : (named : Bool) (functions : Functions) (pass : ClassPass) (b : Binder) (metas : List MetaObject) (suggested : Bound) → named ≡ true → IsFirst named functions pass b metas (Some suggested) suggested
-suggested_named true functions pass b metas suggested e = refl
-suggested_named false functions pass b metas suggested e = cc
-
-pub own_first : (named : Bool) (functions : Functions) (pass : ClassPass) (b : Binder) (metas : List MetaObject) (own suggested : Bound) → named ≡ false → IsOwn functions pass b metas own
-    → IsFirst named functions pass b metas (Some suggested) (answer_of own (Some suggested))
-own_first true functions pass b metas own suggested e is = cc
-own_first false functions pass b metas own suggested e is = (own, is, refl)

@@ -1,12 +1,12 @@
 -- The language's own bound on a member of an object.
-use Rattle.std.proofs.Common.{◌≡◌, ℕ, Bool, true, false, cond, List, [], ◌∷◌, length, map, Option, None, Some, refl, sym, ◌∙◌, ap, subst, slice_get, IfSome}
+use Rattle.std.proofs.Common.{◌≡◌, ℕ, Bool, true, false, cond, List, [], ◌∷◌, map, Option, None, Some, refl, sym, ◌∙◌, ap, subst, slice_get, IfSome}
 use Rattle.std.specs.Option.{option_map}
 use Rattle.dyn_value.specs.declared.fault.Fault.TheVariants.{NoIndex}
 use Rattle.dyn_value.specs.declared.value.Kind.{Kind}
 use Rattle.dyn_value.specs.declared.value.Kind.TheVariants as kind
 use Rattle.dyn_value.specs.declared.value.Value.{Value}
 use Rattle.dyn_value.specs.declared.value.Value.TheVariants as value
-use Rattle.dyn_value.specs.Kinds.{kind_of, same_kind}
+use Rattle.dyn_value.specs.Kinds.{same_kind}
 use Rattle.expando_class.specs.declared.class.ClassRef.{ClassRef}
 use Rattle.expando_class.specs.declared.pass.ClassPass.{ClassPass}
 use Rattle.expando_class.specs.declared.table.ClassTable.{ClassTable}
@@ -19,12 +19,10 @@ use Rattle.restrictions.specs.declared.restriction.Restriction.TheVariants.{Kind
 use Rattle.restrictions.specs.Meanings.{all_hold}
 use Rattle.standard_binders.specs.declared.binder.Binder.{Binder}
 use Rattle.standard_binders.specs.declared.binder.Binder.TheVariants as binder
-use Rattle.standard_binders.specs.Binders.{is_on_members, operand_count_of}
+use Rattle.standard_binders.specs.Binders.{is_on_members}
 use Rattle.standard_binders.specs.Functions.{Functions}
 use Rattle.rule_model.specs.declared.claim.Claim.{Claim}
-use Rattle.rule_model.specs.declared.claim.ClassClaim.{ClassClaim}
-use Rattle.rule_model.specs.declared.claim.FunClaim.{FunClaim}
-use Rattle.rule_model.specs.MemberAnswers.{is_by_key, name_of}
+use Rattle.rule_model.specs.MemberAnswers.{is_by_key}
 use Rattle.rule_model.specs.Soundness.{IsSound}
 use Rattle.rule_model.specs.Tests.{form_of, index_tests, key_tests, tests_by}
 use Rattle.rule_model.proofs.MemberSoundness.{long_sound, other_sound}

@@ -1,5 +1,5 @@
 -- What is chosen is a binding: what is suggested stays one where the pass knows more.
-use Rattle.std.proofs.Common.{sym, subst, Option, Some}
+use Rattle.std.proofs.Common.{sym, subst, Option}
 use Rattle.meta_object.specs.declared.bound.Bound.{Bound}
 use Rattle.meta_object.specs.Bindings.{IsBinding, IsSuggestion}
 use Rattle.fallback.proofs.Fallbacks.{binding_still, first_binding}
