@@ -3,11 +3,11 @@ use Rattle.std.proofs.Common.{◌≡◌, ℕ, ℤ, List, [], ◌∷◌, ◌++◌
 use Rattle.std.specs.List.{flat_map}
 use Rattle.dyn_value.specs.declared.operator.BinOp.{BinOp}
 use Rattle.dyn_value.specs.declared.operator.BinOp.TheVariants as op
-use Rattle.script_front.specs.declared.token.Symbol.{Symbol}
-use Rattle.script_front.specs.declared.token.Symbol.TheVariants as mark
-use Rattle.script_front.specs.declared.token.Keyword.TheVariants as word
-use Rattle.script_front.specs.declared.token.Token.{Token}
-use Rattle.script_front.specs.declared.token.Token.TheVariants.{Int, Mark, Name, Word}
+use Rattle.script_tokens.specs.declared.token.Symbol.{Symbol}
+use Rattle.script_tokens.specs.declared.token.Symbol.TheVariants as mark
+use Rattle.script_tokens.specs.declared.token.Keyword.TheVariants as word
+use Rattle.script_tokens.specs.declared.token.Token.{Token}
+use Rattle.script_tokens.specs.declared.token.Token.TheVariants.{Int, Mark, Name, Word}
 use Rattle.script_front.specs.declared.tree.Expr.{Expr}
 use Rattle.script_front.specs.declared.tree.Head.{Head}
 use Rattle.script_front.specs.declared.tree.Head.TheVariants as head
@@ -16,7 +16,7 @@ use Rattle.script_front.specs.declared.tree.Suffix.TheVariants.{Member}
 use Rattle.script_front.specs.Forms.{Tokens, GoesOnAs}
 use Rattle.script_front.specs.Grammar.{BeginsNot, name_form, operator_form, head_form, suffixes_form, expr_form, spell_head}
 use Rattle.script_front.specs.Spelling.{spell_suffix}
-use Rattle.script_front.specs.Words.{operator_symbol}
+use Rattle.script_front.specs.OperatorSymbols.{operator_symbol}
 use Rattle.script_front.proofs.Fronts.{first_is}
 use Rattle.script_front.proofs.Heads.{expr-written, int-spelling, nil-spelling, true-spelling, false-spelling, name-spelling, written_binary}
 use Rattle.script_front.proofs.Items.{Lawful}

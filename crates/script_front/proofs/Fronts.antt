@@ -2,12 +2,12 @@
 use Rattle.std.proofs.Common.{◌≡◌, ℕ, true, List, [], ◌∷◌, ◌++◌, refl, codes}
 use Rattle.dyn_value.specs.declared.operator.BinOp.{BinOp}
 use Rattle.dyn_value.specs.declared.operator.BinOp.TheVariants as op
-use Rattle.script_front.specs.declared.token.Symbol.{Symbol}
-use Rattle.script_front.specs.declared.token.Token.{Token}
-use Rattle.script_front.specs.declared.token.Token.TheVariants as token
+use Rattle.script_tokens.specs.declared.token.Symbol.{Symbol}
+use Rattle.script_tokens.specs.declared.token.Token.{Token}
+use Rattle.script_tokens.specs.declared.token.Token.TheVariants as token
 use Rattle.script_front.specs.Forms.{Tokens, Form, AllPlain, GoesOnAs, IsPlain, Stops, tok}
 use Rattle.script_front.specs.Grammar.{BeginsNot, name_form, operator_form}
-use Rattle.script_front.specs.Words.{operator_symbol}
+use Rattle.script_front.specs.OperatorSymbols.{operator_symbol}
 use Rattle.script_front.specs.Written.{is_written_operator}
 
 -- no tree's tokens go on as these

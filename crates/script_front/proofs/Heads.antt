@@ -3,10 +3,10 @@ use Rattle.std.proofs.Common.{◌≡◌, ℕ, ℤ, Bool, true, ◌&&◌, List, [
 use Rattle.std.specs.List.{flat_map}
 use Rattle.std.proofs.lemmas.Bool.{and_from, and_parts}
 use Rattle.dyn_value.specs.declared.operator.BinOp.{BinOp}
-use Rattle.script_front.specs.declared.token.Keyword.TheVariants as word
-use Rattle.script_front.specs.declared.token.Symbol.TheVariants as mark
-use Rattle.script_front.specs.declared.token.Token.{Token}
-use Rattle.script_front.specs.declared.token.Token.TheVariants.{Int, Mark, Name, Word}
+use Rattle.script_tokens.specs.declared.token.Keyword.TheVariants as word
+use Rattle.script_tokens.specs.declared.token.Symbol.TheVariants as mark
+use Rattle.script_tokens.specs.declared.token.Token.{Token}
+use Rattle.script_tokens.specs.declared.token.Token.TheVariants.{Int, Mark, Name, Word}
 use Rattle.script_front.specs.declared.tree.Expr.{Expr}
 use Rattle.script_front.specs.declared.tree.Head.{Head}
 use Rattle.script_front.specs.declared.tree.Head.TheVariants as head
@@ -16,7 +16,7 @@ use Rattle.script_front.specs.declared.tree.Suffix.TheVariants.{Member}
 use Rattle.script_front.specs.Forms.{Tokens}
 use Rattle.script_front.specs.Grammar.{spell_head, has_written_head}
 use Rattle.script_front.specs.Spelling.{spell_expr, spell_suffix, head_spelling, expr_spelling}
-use Rattle.script_front.specs.Words.{operator_symbol}
+use Rattle.script_front.specs.OperatorSymbols.{operator_symbol}
 use Rattle.script_front.specs.Written.{is_written_expr, is_written_head, is_written_layer, is_written_operator}
 use Rattle.std.proofs.lemmas.Grind.{flat_map-append}
 use Rattle.script_front.proofs.Trees.{fold_head-Int, fold_head-Nil, fold_head-True, fold_head-False, fold_head-Name, fold_head-Binary, fold_head-New}

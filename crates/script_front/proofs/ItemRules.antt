@@ -4,8 +4,8 @@ use Rattle.std.specs.List.{list_all}
 use Rattle.std.proofs.lemmas.Bool.{and_from, and_parts, eqb-true, eq-eqb}
 use Rattle.script_front.specs.declared.parser.items.Declaration.{Declaration}
 use Rattle.script_front.specs.declared.parser.items.Declaration.TheVariants as declaration
-use Rattle.script_front.specs.declared.token.Keyword.TheVariants as word
-use Rattle.script_front.specs.declared.token.Token.TheVariants.{Word}
+use Rattle.script_tokens.specs.declared.token.Keyword.TheVariants as word
+use Rattle.script_tokens.specs.declared.token.Token.TheVariants.{Word}
 use Rattle.script_front.specs.declared.tree.Item.{Item}
 use Rattle.script_front.specs.declared.tree.Item.TheVariants as item
 use Rattle.script_front.specs.declared.tree.Task.{Task}

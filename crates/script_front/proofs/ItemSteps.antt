@@ -6,9 +6,9 @@ use Rattle.std.proofs.lemmas.List.{nil_from_length}
 use Rattle.script_front.specs.declared.halt.Halt.{Halt}
 use Rattle.script_front.specs.declared.parser.items.Declaration.{Declaration}
 use Rattle.script_front.specs.declared.parser.items.Declaration.TheVariants as declaration
-use Rattle.script_front.specs.declared.token.Keyword.TheVariants as word
-use Rattle.script_front.specs.declared.token.Symbol.TheVariants as mark
-use Rattle.script_front.specs.declared.token.Token.TheVariants.{Word, Mark, Name}
+use Rattle.script_tokens.specs.declared.token.Keyword.TheVariants as word
+use Rattle.script_tokens.specs.declared.token.Symbol.TheVariants as mark
+use Rattle.script_tokens.specs.declared.token.Token.TheVariants.{Word, Mark, Name}
 use Rattle.script_front.specs.declared.tree.Block.{Block}
 use Rattle.script_front.specs.declared.tree.Item.{Item}
 use Rattle.script_front.specs.declared.tree.Item.TheVariants as item

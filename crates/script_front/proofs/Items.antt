@@ -1,6 +1,6 @@
 -- Where a reading call stands within its form.
 use Rattle.std.proofs.Common.{◌≡◌, ◌⊎◌, inl, inr, [], ◌∷◌, ◌++◌, refl, sym, ap, ◌∙◌, subst, append_assoc, append-nil}
-use Rattle.script_front.specs.declared.token.Token.{Token}
+use Rattle.script_tokens.specs.declared.token.Token.{Token}
 use Rattle.script_front.specs.Forms.{Tokens, Form, AllPlain, GoesOnAs, Reads, Stops, nothing, seq, or, or_tokens, or_may}
 
 -- What stands as the form is one tree, whatever follows; what follows counts by its first token; and a tree may

@@ -1,21 +1,16 @@
 mod BinderCounts
 mod Exits
 mod ExpressionLaws
-mod FirstCharacters
-mod FrontPieces
 mod Fronts
 mod Heads
-mod IntegerFronts
 mod ItemLaws
 mod ItemRules
 mod ItemSteps
 mod Items
-mod LexemeRuns
 pub mod Lists
 mod NameRules
 mod Numbers
 mod ParseOutcomes
-mod PieceRows
 mod PlaceBounds
 mod Refusals
 mod Rules
@@ -23,10 +18,6 @@ mod StatementLaws
 mod StatementRules
 mod StatementSteps
 mod Steps
-mod SymbolFronts
 mod Targets
-mod TextFronts
-mod TokenMeanings
 pub mod Trees
 mod Unique
-mod WordFronts

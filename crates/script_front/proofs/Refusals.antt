@@ -3,9 +3,9 @@ use Rattle.std.proofs.Common.{◌≡◌, ℕ, List, sym, subst, Result}
 use Rattle.std.specs.Result.{IsErrAnd, IsErrOf}
 use Rattle.std.specs.Str.{chars}
 use Rattle.std.proofs.lemmas.Result.{err_from_is_err_and}
-use Rattle.script_front.specs.declared.token.Token.{Token}
+use Rattle.script_tokens.specs.declared.token.Token.{Token}
 use Rattle.script_front.specs.declared.tree.Script.{Script}
-use Rattle.script_front.specs.Lexemes.{AreTokens}
+use Rattle.script_tokens.specs.Lexemes.{AreTokens}
 use Rattle.script_front.specs.Script.{IsScript}
 use Rattle.script_front.specs.Spelling.{spell}
 

@@ -5,9 +5,9 @@ use Rattle.std.proofs.lemmas.Bool.{and_parts}
 use Rattle.script_front.specs.declared.parser.targets.MemberAccess.{MemberAccess}
 use Rattle.script_front.specs.declared.parser.targets.Target.{Target}
 use Rattle.script_front.specs.declared.parser.targets.Target.TheVariants as target
-use Rattle.script_front.specs.declared.token.Keyword.TheVariants as word
-use Rattle.script_front.specs.declared.token.Symbol.TheVariants as mark
-use Rattle.script_front.specs.declared.token.Token.TheVariants.{Word, Mark}
+use Rattle.script_tokens.specs.declared.token.Keyword.TheVariants as word
+use Rattle.script_tokens.specs.declared.token.Symbol.TheVariants as mark
+use Rattle.script_tokens.specs.declared.token.Token.TheVariants.{Word, Mark}
 use Rattle.script_front.specs.declared.tree.Stmt.{Stmt}
 use Rattle.script_front.specs.declared.tree.Stmt.TheVariants as stmt
 use Rattle.script_front.specs.declared.tree.Block.{Block}

@@ -3,9 +3,9 @@ use Rattle.std.proofs.Common.{◌≡◌, ℕ, ◌≤◌, ◌<◌, length, arith,
 use Rattle.script_front.specs.declared.halt.Halt.{Halt}
 use Rattle.script_front.specs.declared.parser.targets.MemberAccess.{MemberAccess}
 use Rattle.script_front.specs.declared.parser.targets.Target.{Target}
-use Rattle.script_front.specs.declared.token.Keyword.TheVariants as word
-use Rattle.script_front.specs.declared.token.Symbol.TheVariants as mark
-use Rattle.script_front.specs.declared.token.Token.TheVariants.{Word, Mark}
+use Rattle.script_tokens.specs.declared.token.Keyword.TheVariants as word
+use Rattle.script_tokens.specs.declared.token.Symbol.TheVariants as mark
+use Rattle.script_tokens.specs.declared.token.Token.TheVariants.{Word, Mark}
 use Rattle.script_front.specs.declared.tree.Expr.{Expr}
 use Rattle.script_front.specs.declared.tree.Stmt.{Stmt}
 use Rattle.script_front.specs.declared.tree.Stmt.TheVariants as stmt

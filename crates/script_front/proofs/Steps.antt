@@ -3,10 +3,10 @@ use Rattle.std.proofs.Common.{◌≡◌, ℕ, ℤ, ◌≤◌, ◌<◌, length, p
 use Rattle.dyn_value.specs.declared.operator.BinOp.{BinOp}
 use Rattle.dyn_value.specs.declared.operator.BinOp.TheVariants as op
 use Rattle.script_front.specs.declared.halt.Halt.{Halt}
-use Rattle.script_front.specs.declared.token.Keyword.TheVariants as word
-use Rattle.script_front.specs.declared.token.Symbol.TheVariants as mark
-use Rattle.script_front.specs.declared.token.Token.{Token}
-use Rattle.script_front.specs.declared.token.Token.TheVariants.{Int, Mark, Name, Word}
+use Rattle.script_tokens.specs.declared.token.Keyword.TheVariants as word
+use Rattle.script_tokens.specs.declared.token.Symbol.TheVariants as mark
+use Rattle.script_tokens.specs.declared.token.Token.{Token}
+use Rattle.script_tokens.specs.declared.token.Token.TheVariants.{Int, Mark, Name, Word}
 use Rattle.script_front.specs.declared.tree.Expr.{Expr}
 use Rattle.script_front.specs.declared.tree.Head.{Head}
 use Rattle.script_front.specs.declared.tree.Head.TheVariants as head

@@ -6,8 +6,8 @@ use Rattle.script_front.specs.declared.halt.Halt.TheVariants as halt
 use Rattle.script_front.specs.declared.parser.targets.MemberAccess.{MemberAccess}
 use Rattle.script_front.specs.declared.parser.targets.Target.{Target}
 use Rattle.script_front.specs.declared.parser.targets.Target.TheVariants as target
-use Rattle.script_front.specs.declared.token.Symbol.TheVariants as mark
-use Rattle.script_front.specs.declared.token.Token.TheVariants.{Mark, Name}
+use Rattle.script_tokens.specs.declared.token.Symbol.TheVariants as mark
+use Rattle.script_tokens.specs.declared.token.Token.TheVariants.{Mark, Name}
 use Rattle.script_front.specs.declared.tree.Expr.{Expr}
 use Rattle.script_front.specs.declared.tree.Head.{Head}
 use Rattle.script_front.specs.declared.tree.Head.TheVariants as head

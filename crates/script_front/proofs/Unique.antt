@@ -1,6 +1,6 @@
 -- What stands at the front of tokens, as a form, is one tree.
 use Rattle.std.proofs.Common.{◌≡◌, ◌++◌, refl, sym, ap, ◌∙◌, subst, append_assoc}
-use Rattle.script_front.specs.declared.token.Token.{Token}
+use Rattle.script_tokens.specs.declared.token.Token.{Token}
 use Rattle.script_front.specs.Forms.{Tokens, Form, tok, seq}
 use Rattle.script_front.proofs.Items.{At, Lawful, goes_same}
 

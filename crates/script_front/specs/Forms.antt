@@ -1,8 +1,8 @@
 -- Forms of a grammar, and what the reading of one answers.
 use Rattle.std.specs.Prelude.{◌≡◌, ◌⊎◌, List, [], ◌∷◌, ◌++◌, pos, codes}
 use Rattle.std.proofs.Common.{inl, inr}
-use Rattle.script_front.specs.declared.token.Token.{Token}
-use Rattle.script_front.specs.declared.token.Token.TheVariants.{Name, Int, Word, Mark}
+use Rattle.script_tokens.specs.declared.token.Token.{Token}
+use Rattle.script_tokens.specs.declared.token.Token.TheVariants.{Name, Int, Word, Mark}
 
 abbrev pub Tokens : Type 0
 Tokens = List Token

@@ -7,10 +7,10 @@ use Rattle.script_front.specs.declared.parser.items.Declaration.TheVariants as d
 use Rattle.script_front.specs.declared.parser.targets.MemberAccess.{MemberAccess}
 use Rattle.script_front.specs.declared.parser.targets.Target.{Target}
 use Rattle.script_front.specs.declared.parser.targets.Target.TheVariants as target
-use Rattle.script_front.specs.declared.token.Symbol.{Symbol}
-use Rattle.script_front.specs.declared.token.Symbol.TheVariants as mark
-use Rattle.script_front.specs.declared.token.Token.{Token}
-use Rattle.script_front.specs.declared.token.Token.TheVariants.{Name, Mark}
+use Rattle.script_tokens.specs.declared.token.Symbol.{Symbol}
+use Rattle.script_tokens.specs.declared.token.Symbol.TheVariants as mark
+use Rattle.script_tokens.specs.declared.token.Token.{Token}
+use Rattle.script_tokens.specs.declared.token.Token.TheVariants.{Name, Mark}
 use Rattle.script_front.specs.declared.tree.Expr.{Expr}
 use Rattle.script_front.specs.declared.tree.Head.{Head}
 use Rattle.script_front.specs.declared.tree.Head.TheFolds.{fold-Head}
@@ -24,7 +24,7 @@ use Rattle.script_front.specs.declared.tree.Item.TheVariants as item
 use Rattle.script_front.specs.declared.tree.Script.{Script}
 use Rattle.script_front.specs.Forms.{Form, Tokens}
 use Rattle.script_front.specs.Spelling.{spell, spell_task, spell_shared, spell_block, spell_stmt, spell_expr, spell_suffix, head_spelling, expr_spelling}
-use Rattle.script_front.specs.Words.{operator_symbol}
+use Rattle.script_front.specs.OperatorSymbols.{operator_symbol}
 use Rattle.script_front.specs.Written.{is_written, is_written_task, is_written_block, is_written_stmt, is_written_expr, is_written_head, is_written_layer, is_written_operator}
 
 -- the tokens do not begin with this one

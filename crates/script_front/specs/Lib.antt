@@ -1,13 +1,10 @@
 pub mod Forms
 pub mod Grammar
 pub mod Halts
-pub mod Lexemes
 pub mod Names
+pub mod OperatorSymbols
 pub mod Programs
 pub mod Script
-pub mod Shallow
 pub mod Sites
 pub mod Spelling
-pub mod TextFronts
-pub mod Words
 pub mod Written

@@ -8,9 +8,9 @@ use Rattle.script_front.specs.declared.tree.Stmt.{Stmt}
 use Rattle.script_front.specs.declared.tree.Stmt.TheVariants.{Let}
 use Rattle.script_front.specs.declared.tree.Task.{Task}
 use Rattle.script_front.specs.declared.tree.Script.{Script}
-use Rattle.script_front.specs.Lexemes.{AreTokens}
+use Rattle.script_tokens.specs.Lexemes.{AreTokens}
 use Rattle.script_front.specs.Names.{AreNamed}
-use Rattle.script_front.specs.Shallow.{IsShallow}
+use Rattle.script_tokens.specs.Shallow.{IsShallow}
 use Rattle.script_front.specs.Sites.{site_binders}
 use Rattle.script_front.specs.Spelling.{spell}
 use Rattle.script_front.specs.Written.{is_written}

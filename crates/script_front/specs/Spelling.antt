@@ -1,10 +1,10 @@
 -- The tokens of a script tree.
 use Rattle.std.specs.Prelude.{ℕ, List, [], ◌∷◌, ◌++◌}
 use Rattle.std.specs.List.{flat_map}
-use Rattle.script_front.specs.declared.token.Token.{Token}
-use Rattle.script_front.specs.declared.token.Token.TheVariants.{Name, Int, Word, Mark}
-use Rattle.script_front.specs.declared.token.Keyword.TheVariants as word
-use Rattle.script_front.specs.declared.token.Symbol.TheVariants as mark
+use Rattle.script_tokens.specs.declared.token.Token.{Token}
+use Rattle.script_tokens.specs.declared.token.Token.TheVariants.{Name, Int, Word, Mark}
+use Rattle.script_tokens.specs.declared.token.Keyword.TheVariants as word
+use Rattle.script_tokens.specs.declared.token.Symbol.TheVariants as mark
 use Rattle.script_front.specs.declared.tree.Head.TheFolds.{fold-Expr}
 use Rattle.script_front.specs.declared.tree.Head.TheOpen.{Head-F, Expr-F}
 use Rattle.script_front.specs.declared.tree.Suffix.{Suffix}
@@ -17,7 +17,7 @@ use Rattle.script_front.specs.declared.tree.Item.TheVariants as item
 use Rattle.script_front.specs.declared.tree.Task.{Task}
 use Rattle.script_front.specs.declared.tree.Script.{Script}
 use Rattle.script_front.specs.declared.tree.Expr.{Expr}
-use Rattle.script_front.specs.Words.{operator_symbol}
+use Rattle.script_front.specs.OperatorSymbols.{operator_symbol}
 
 abbrev pub head_spelling : Head-F (List Token) (List Token) → List Token
 head_spelling (Head-F.Int n) = Int n ∷ []

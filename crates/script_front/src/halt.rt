@@ -1,6 +1,6 @@
 ghost use Rattle.script_front.specs.declared.halt.Halt.TheVariants as halt;
 
-use crate::token::Token;
+use script_tokens::Token;
 use std::alloc::AllocError;
 
 /// Why the reading of tokens ended without a tree.

@@ -1,9 +1,8 @@
-//! Reads scripts: from bytes to tokens, from tokens to the script tree, and its sites and binders.
+//! Reads scripts: from bytes through their tokens to the script tree, and its sites and binders.
 #![tactic(auto)]
 
 mod halt;
 mod laws;
-mod lexer;
 mod limits;
 mod names;
 mod numbering;
@@ -11,17 +10,12 @@ mod parser;
 mod place;
 mod program;
 mod reading;
-mod shallow;
 mod sites;
-mod token;
 mod tree;
 
 pub use laws::trees_have_distinct_spellings;
-pub use limits::{
-    MOST_BINDERS, MOST_BYTES, MOST_LOCALS, MOST_OPEN_BRACKETS, MOST_SHARED, MOST_SITES, MOST_TASKS,
-};
+pub use limits::{MOST_BINDERS, MOST_BYTES, MOST_LOCALS, MOST_SHARED, MOST_SITES, MOST_TASKS};
 pub use place::Place;
 pub use program::Program;
 pub use reading::{ReadFault, ScriptRefused, read};
-pub use token::{Keyword, Symbol, Token};
 pub use tree::{Block, Expr, Head, Item, Script, Stmt, Suffix, Task};

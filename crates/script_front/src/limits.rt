@@ -7,9 +7,6 @@ use crate::tree::{Script, Stmt, Task};
 /// The most bytes that a script may have.
 pub const MOST_BYTES: usize = 1_048_576;
 
-/// The most brackets that may stand open at once.
-pub const MOST_OPEN_BRACKETS: usize = 128;
-
 /// The most shared names that a script may have.
 pub const MOST_SHARED: usize = 64;
 

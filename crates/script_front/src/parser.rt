@@ -13,8 +13,8 @@ mod tokens;
 
 use crate::halt::Halt;
 use crate::parser::items::{add, declaration_at};
-use crate::token::Token;
 use crate::tree::Script;
+use script_tokens::Token;
 use sqlite_items::Items;
 use std::alloc::Global;
 

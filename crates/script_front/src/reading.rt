@@ -1,8 +1,8 @@
 ghost use Rattle.std.specs.Prelude.{◌≡◌, ◌≤◌, List, true, length, IfOk, IsErrOf, IsUtf8};
 ghost use Rattle.std.specs.Str.{chars};
-ghost use Rattle.script_front.specs.declared.token.Token.{Token};
+ghost use Rattle.script_tokens.specs.declared.token.Token.{Token};
 ghost use Rattle.script_front.specs.declared.tree.Script.{Script};
-ghost use Rattle.script_front.specs.Lexemes.{AreTokens};
+ghost use Rattle.script_tokens.specs.Lexemes.{AreTokens};
 ghost use Rattle.script_front.specs.Programs.{script_of};
 ghost use Rattle.script_front.specs.Script.{IsScript};
 ghost use Rattle.script_front.specs.Spelling.{spell};
@@ -12,13 +12,11 @@ ghost use Rattle.script_front.specs.Written.{is_written};
 mod tests;
 
 use crate::halt::Halt;
-use crate::lexer::{Unlexed, lex};
 use crate::limits::MOST_BYTES;
 use crate::parser::parse;
 use crate::program::Program;
-use crate::shallow::is_shallow;
-use crate::token::Token;
 use crate::tree::Script;
+use script_tokens::{Token, Unlexed, is_shallow, lex};
 use std::alloc::{AllocError, Global};
 use thiserror::Error;
 

@@ -7,8 +7,8 @@ ghost use Rattle.script_front.specs.Halts.{Halts};
 
 use crate::halt::Halt;
 use crate::parser::tokens::{after, name_at, operator_at, past};
-use crate::token::{Keyword, Symbol, Token};
 use crate::tree::{Expr, Head, Suffix};
+use script_tokens::{Keyword, Symbol, Token};
 use sqlite_items::{Boxed, Items};
 use std::alloc::Global;
 

@@ -8,9 +8,9 @@ ghost use Rattle.script_front.specs.Halts.{Halts};
 use crate::halt::Halt;
 use crate::parser::statements::block_at;
 use crate::parser::tokens::{after, name_at};
-use crate::token::{Keyword, Symbol, Token};
 use crate::tree::{Item, Script, Task};
 use dyn_value::DynText;
+use script_tokens::{Keyword, Symbol, Token};
 use std::alloc::{AllocError, Global};
 
 /// What an item declares.

@@ -9,8 +9,8 @@ use crate::halt::Halt;
 use crate::parser::expressions::expr_at;
 use crate::parser::targets::{MemberAccess, Target, access_at, target_at};
 use crate::parser::tokens::{after, name_at, past};
-use crate::token::{Keyword, Symbol, Token};
 use crate::tree::{Block, Expr, Stmt};
+use script_tokens::{Keyword, Symbol, Token};
 use sqlite_items::Items;
 use std::alloc::Global;
 

@@ -7,9 +7,9 @@ ghost use Rattle.script_front.specs.Halts.{Halts};
 
 use crate::halt::Halt;
 use crate::parser::expressions::expr_at;
-use crate::token::Token;
 use crate::tree::{Expr, Head, Suffix};
 use dyn_value::DynText;
+use script_tokens::Token;
 use std::alloc::Global;
 
 /// `EXPRESSION . NAME`

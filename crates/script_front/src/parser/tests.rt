@@ -1,7 +1,7 @@
 use super::*;
 use crate::limits::MOST_BYTES;
-use crate::token::{Keyword, Symbol};
 use dyn_value::DynText;
+use script_tokens::{Keyword, Symbol};
 use std::test::Fail;
 
 // A word by its first letter (`k` is `task`, `t` `true`), a digit a number, a sign itself, and `a` and `b` names.

@@ -4,12 +4,12 @@ ghost use Rattle.std.specs.Prelude.{◌≡◌, true, ◌∷◌, ◌<◌, length,
 ghost use Rattle.script_front.specs.Forms.{Reads, tok};
 ghost use Rattle.script_front.specs.Grammar.{BeginsNot, HasNoOperator, name_form, operator_form};
 ghost use Rattle.script_front.specs.Halts.{Halts};
-ghost use Rattle.script_front.specs.Words.{operator_symbol};
+ghost use Rattle.script_front.specs.OperatorSymbols.{operator_symbol};
 ghost use Rattle.script_front.specs.Written.{is_written_operator};
 
 use crate::halt::Halt;
-use crate::token::{Symbol, Token};
 use dyn_value::{BinOp, DynText};
+use script_tokens::{Symbol, Token};
 
 /// The tokens after this symbol, if they begin with it.
 pub fn past(tokens: &[Token], symbol: Symbol) -> Option<&[Token]>

@@ -2,7 +2,7 @@ use Rattle.std.proofs.Common.{◌≡◌, true, false, sym, ap, ◌∙◌, subst}
 use Rattle.std.specs.Prelude.{Err}
 use Rattle.script_front.specs.Names.{AreNamed}
 use Rattle.script_front.specs.Script.{IsWithinLimits}
-use Rattle.script_front.specs.Shallow.{IsShallow}
+use Rattle.script_tokens.specs.Shallow.{IsShallow}
 use Rattle.script_front.proofs.Refusals.{passed_on, spelled, no_tokens}
 use Rattle.script_front.proofs.reading.read.Goals as goal
 

@@ -1,0 +1,9 @@
+mod FirstCharacters
+mod FrontPieces
+mod IntegerFronts
+mod LexemeRuns
+mod PieceRows
+mod SymbolFronts
+mod TextFronts
+mod TokenMeanings
+mod WordFronts

@@ -1,0 +1,5 @@
+pub mod LexerStops
+pub mod Lexemes
+pub mod Shallow
+pub mod TextFronts
+pub mod Words
