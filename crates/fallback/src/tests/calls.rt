@@ -1,0 +1,50 @@
+//! What is bound where a function is called or makes an object; expected texts are worked out by hand.
+use crate::tests::operation::Asked::{Create, Invoke};
+use crate::tests::operation::Operand::{Fun, Int};
+use crate::tests::operation::Row;
+
+/// Calls and creations: by their count, by the names of their last arguments, and the first that is no parameter or
+/// that an argument by place fills.
+pub(crate) static CALLS: [Row; 41] = [
+    (Invoke(0, &[]), &[Fun(0)], &[], "(and (kind 0 Fun) (fun 0 0)) (call 0)"),
+    (Invoke(1, &[]), &[Fun(1), Int], &[], "(and (kind 0 Fun) (fun 0 1)) (call 1)"),
+    (Invoke(2, &[]), &[Fun(2), Int, Int], &[], "(and (kind 0 Fun) (fun 0 2)) (call 2)"),
+    (Invoke(16, &[]), &[Fun(4), Int, Int, Int, Int, Int, Int, Int, Int, Int, Int, Int, Int, Int, Int, Int, Int], &[], "(and (kind 0 Fun) (fun 0 4)) (call 4)"),
+    (Invoke(1, &[]), &[Fun(0), Int], &[], "(and (kind 0 Fun) (fun 0 0)) (throw WrongCount 0 1)"),
+    (Invoke(1, &[]), &[Fun(2), Int], &[], "(and (kind 0 Fun) (fun 0 2)) (throw WrongCount 2 1)"),
+    (Invoke(3, &[]), &[Fun(2), Int, Int, Int], &[], "(and (kind 0 Fun) (fun 0 2)) (throw WrongCount 2 3)"),
+    (Invoke(16, &[]), &[Fun(3), Int, Int, Int, Int, Int, Int, Int, Int, Int, Int, Int, Int, Int, Int, Int, Int], &[], "(and (kind 0 Fun) (fun 0 3)) (throw WrongCount 3 16)"),
+    (Invoke(1, &["b"]), &[Fun(2), Int], &[], "(and (kind 0 Fun) (fun 0 2)) (throw WrongCount 2 1)"),
+    (Invoke(3, &["c"]), &[Fun(2), Int, Int, Int], &[], "(and (kind 0 Fun) (fun 0 2)) (throw WrongCount 2 3)"),
+    (Invoke(1, &["a"]), &[Fun(1), Int], &[], "(and (kind 0 Fun) (fun 0 1)) (call 1)"),
+    (Invoke(2, &["b"]), &[Fun(2), Int, Int], &[], "(and (kind 0 Fun) (fun 0 2)) (call 2)"),
+    (Invoke(2, &["a", "b"]), &[Fun(2), Int, Int], &[], "(and (kind 0 Fun) (fun 0 2)) (call 2)"),
+    (Invoke(2, &["b", "a"]), &[Fun(2), Int, Int], &[], "(and (kind 0 Fun) (fun 0 2)) (call 2)"),
+    (Invoke(3, &["c", "b"]), &[Fun(3), Int, Int, Int], &[], "(and (kind 0 Fun) (fun 0 3)) (call 3)"),
+    (Invoke(3, &["b", "c", "a"]), &[Fun(3), Int, Int, Int], &[], "(and (kind 0 Fun) (fun 0 3)) (call 3)"),
+    (Invoke(16, &["p15", "p14"]), &[Fun(4), Int, Int, Int, Int, Int, Int, Int, Int, Int, Int, Int, Int, Int, Int, Int, Int], &[], "(and (kind 0 Fun) (fun 0 4)) (call 4)"),
+    (Invoke(1, &["b"]), &[Fun(1), Int], &[], "(and (kind 0 Fun) (fun 0 1)) (throw NoParameter \"b\")"),
+    (Invoke(2, &["a"]), &[Fun(2), Int, Int], &[], "(and (kind 0 Fun) (fun 0 2)) (throw NoParameter \"a\")"),
+    (Invoke(2, &["c"]), &[Fun(2), Int, Int], &[], "(and (kind 0 Fun) (fun 0 2)) (throw NoParameter \"c\")"),
+    (Invoke(2, &["b", "c"]), &[Fun(2), Int, Int], &[], "(and (kind 0 Fun) (fun 0 2)) (throw NoParameter \"c\")"),
+    (Invoke(2, &["d", "c"]), &[Fun(2), Int, Int], &[], "(and (kind 0 Fun) (fun 0 2)) (throw NoParameter \"d\")"),
+    (Invoke(3, &["b", "a"]), &[Fun(3), Int, Int, Int], &[], "(and (kind 0 Fun) (fun 0 3)) (throw NoParameter \"a\")"),
+    (Invoke(3, &["a", "b"]), &[Fun(3), Int, Int, Int], &[], "(and (kind 0 Fun) (fun 0 3)) (throw NoParameter \"a\")"),
+    (Invoke(16, &["p15", "p0"]), &[Fun(4), Int, Int, Int, Int, Int, Int, Int, Int, Int, Int, Int, Int, Int, Int, Int, Int], &[], "(and (kind 0 Fun) (fun 0 4)) (throw NoParameter \"p0\")"),
+    (Create(0, &[]), &[Fun(1)], &[], "(and (kind 0 Fun) (fun 0 1)) (make 1)"),
+    (Create(1, &[]), &[Fun(2), Int], &[], "(and (kind 0 Fun) (fun 0 2)) (make 2)"),
+    (Create(15, &[]), &[Fun(4), Int, Int, Int, Int, Int, Int, Int, Int, Int, Int, Int, Int, Int, Int, Int], &[], "(and (kind 0 Fun) (fun 0 4)) (make 4)"),
+    (Create(0, &[]), &[Fun(0)], &[], "(and (kind 0 Fun) (fun 0 0)) (throw WrongCount 0 1)"),
+    (Create(0, &[]), &[Fun(2)], &[], "(and (kind 0 Fun) (fun 0 2)) (throw WrongCount 2 1)"),
+    (Create(2, &[]), &[Fun(2), Int, Int], &[], "(and (kind 0 Fun) (fun 0 2)) (throw WrongCount 2 3)"),
+    (Create(16, &[]), &[Fun(4), Int, Int, Int, Int, Int, Int, Int, Int, Int, Int, Int, Int, Int, Int, Int, Int], &[], "(and (kind 0 Fun) (fun 0 4)) (throw WrongCount 16 17)"),
+    (Create(2, &["b"]), &[Fun(2), Int, Int], &[], "(and (kind 0 Fun) (fun 0 2)) (throw WrongCount 2 3)"),
+    (Create(1, &["b"]), &[Fun(2), Int], &[], "(and (kind 0 Fun) (fun 0 2)) (make 2)"),
+    (Create(2, &["b", "c"]), &[Fun(3), Int, Int], &[], "(and (kind 0 Fun) (fun 0 3)) (make 3)"),
+    (Create(2, &["c", "b"]), &[Fun(3), Int, Int], &[], "(and (kind 0 Fun) (fun 0 3)) (make 3)"),
+    (Create(15, &["p15", "p1"]), &[Fun(4), Int, Int, Int, Int, Int, Int, Int, Int, Int, Int, Int, Int, Int, Int, Int], &[], "(and (kind 0 Fun) (fun 0 4)) (throw NoParameter \"p1\")"),
+    (Create(1, &["a"]), &[Fun(2), Int], &[], "(and (kind 0 Fun) (fun 0 2)) (throw NoParameter \"a\")"),
+    (Create(1, &["c"]), &[Fun(2), Int], &[], "(and (kind 0 Fun) (fun 0 2)) (throw NoParameter \"c\")"),
+    (Create(2, &["c", "a"]), &[Fun(3), Int, Int], &[], "(and (kind 0 Fun) (fun 0 3)) (throw NoParameter \"a\")"),
+    (Create(2, &["d", "e"]), &[Fun(3), Int, Int], &[], "(and (kind 0 Fun) (fun 0 3)) (throw NoParameter \"d\")"),
+];
