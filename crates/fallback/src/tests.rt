@@ -29,7 +29,10 @@ fn expect_rows<R: Abort + Wait>(rt: &R, alloc: Global, rows: &[Row]) -> Result<(
         };
         for way in [Way::Bind, Way::FallBack] {
             let text = printed_bound(rt, alloc, operation, way)?;
-            assert!(rt; text.as_slice() == want.as_bytes(), "{way:?} {asked:?}: {want}");
+            assert!(rt;
+                text.as_slice() == want.as_bytes(),
+                "{way:?} {asked:?}: {want}"
+            );
         }
     }
     Ok(())

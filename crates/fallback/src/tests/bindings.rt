@@ -127,18 +127,12 @@ fn bind<R: Wait>(
         Binder::DeleteMember { .. } => {
             MetaObject::bind_delete_member(alloc, rt, language, cx, binder, metas)
         }
-        Binder::GetIndex => {
-            MetaObject::bind_get_index(alloc, rt, language, cx, binder, metas)
-        }
-        Binder::SetIndex => {
-            MetaObject::bind_set_index(alloc, rt, language, cx, binder, metas)
-        }
+        Binder::GetIndex => { MetaObject::bind_get_index(alloc, rt, language, cx, binder, metas) }
+        Binder::SetIndex => { MetaObject::bind_set_index(alloc, rt, language, cx, binder, metas) }
         Binder::DeleteIndex => {
             MetaObject::bind_delete_index(alloc, rt, language, cx, binder, metas)
         }
-        Binder::Invoke { .. } => {
-            MetaObject::bind_invoke(alloc, rt, language, cx, binder, metas)
-        }
+        Binder::Invoke { .. } => { MetaObject::bind_invoke(alloc, rt, language, cx, binder, metas) }
         Binder::InvokeMember { .. } => {
             MetaObject::bind_invoke_member(alloc, rt, language, cx, binder, metas)
         }

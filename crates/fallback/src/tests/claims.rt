@@ -30,7 +30,7 @@ static CLASSES: [ClassRow; 8] = [
     (
         Asked::InvokeMember("m63", 0, &[]),
         &[Operand::Obj],
-        &SIXTY_FOUR,
+        SIXTY_FOUR,
         (64, "m63", Some(63), true, None),
     ),
     (
@@ -42,7 +42,7 @@ static CLASSES: [ClassRow; 8] = [
     (
         Asked::Set("m64"),
         &[Operand::Obj, Operand::Nil],
-        &SIXTY_FOUR,
+        SIXTY_FOUR,
         (64, "m64", None, true, None),
     ),
     (

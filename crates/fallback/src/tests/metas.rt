@@ -77,11 +77,7 @@ fn is_callable(functions: &FunTable, operand: &Value) -> bool
 }
 
 /// The class that is lent for an operation: none where it looks at no object.
-fn lent_for<'a>(
-    binder: &Binder,
-    operands: &[Value],
-    class: &'a ClassRef,
-) -> Option<&'a ClassRef>
+fn lent_for<'a>(binder: &Binder, operands: &[Value], class: &'a ClassRef) -> Option<&'a ClassRef>
     ensures { option_copied result ≡ (if looks_at_none binder.now operands.now then None else Some class.now) }
 {
     match operands.first() {

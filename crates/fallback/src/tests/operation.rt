@@ -43,13 +43,19 @@ pub(crate) struct Operation<'a> {
 }
 
 /// A row of a table: what is asked of which operands, the names of the class, and the text of the bound.
-pub(crate) type Row = (Asked, &'static [Operand], &'static [&'static str], &'static str);
+pub(crate) type Row = (
+    Asked,
+    &'static [Operand],
+    &'static [&'static str],
+    &'static str,
+);
 
 /// A name of 64 bytes, the most that a name may have.
 pub(crate) const LONGEST: &str = "n012345678901234567890123456789012345678901234567890123456789abc";
 
 /// A text of 65 bytes, which names no member.
-pub(crate) const TOO_LONG: &str = "n012345678901234567890123456789012345678901234567890123456789abcd";
+pub(crate) const TOO_LONG: &str =
+    "n012345678901234567890123456789012345678901234567890123456789abcd";
 
 /// The names of the parameters of the functions of the tests.
 static PARAMETERS: [&[&str]; 5] = [

@@ -123,7 +123,13 @@ fn operators_with_two_operands(rt: HostRuntime) -> Result<(), Fail> {
             for &(right, other) in &VALUES {
                 let is_on = left == right && is_among(kinds, left);
                 let want = binary_text(alloc, op, left, right, is_on)?;
-                expect(&rt, alloc, Asked::Binary(op), &[target, other], want.as_str())?;
+                expect(
+                    &rt,
+                    alloc,
+                    Asked::Binary(op),
+                    &[target, other],
+                    want.as_str(),
+                )?;
             }
         }
     }
@@ -137,7 +143,13 @@ fn any_two_values_are_compared(rt: HostRuntime) -> Result<(), Fail> {
         for &(left, target) in &VALUES {
             for &(right, other) in &VALUES {
                 let want = binary_text(alloc, op, left, right, true)?;
-                expect(&rt, alloc, Asked::Binary(op), &[target, other], want.as_str())?;
+                expect(
+                    &rt,
+                    alloc,
+                    Asked::Binary(op),
+                    &[target, other],
+                    want.as_str(),
+                )?;
             }
         }
     }

@@ -89,8 +89,7 @@ fn read_beside(rt: &impl Wait, alloc: Global, names: &[&str]) -> Result<Vec<u8>,
         table: &table,
         pass: &mut pass,
     };
-    let bound =
-        language.fallback_get_index(alloc, rt, &mut cx, &binder, &metas, Some(suggested))?;
+    let bound = language.fallback_get_index(alloc, rt, &mut cx, &binder, &metas, Some(suggested))?;
     printed(alloc, &bound)
 }
 
