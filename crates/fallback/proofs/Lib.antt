@@ -5,3 +5,4 @@ pub mod ObjectBounds
 pub mod OwnAnswers
 pub mod OwnNodes
 pub mod OwnSoundness
+pub mod TestMetas

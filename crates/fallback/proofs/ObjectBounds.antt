@@ -1,5 +1,5 @@
 -- The language's own bound on a member of an object.
-use Rattle.std.proofs.Common.{◌≡◌, ℕ, Bool, true, false, cond, List, [], ◌∷◌, map, Option, None, Some, refl, sym, ◌∙◌, ap, subst, slice_get, IfSome}
+use Rattle.std.proofs.Common.{◌≡◌, ℕ, MatchOption, Bool, true, false, cond, List, [], ◌∷◌, map, Option, None, Some, refl, sym, ◌∙◌, ap, subst, slice_get, IfSome}
 use Rattle.std.specs.Option.{option_map}
 use Rattle.dyn_value.specs.declared.fault.Fault.TheVariants.{NoIndex}
 use Rattle.dyn_value.specs.declared.value.Kind.{Kind}
@@ -22,7 +22,7 @@ use Rattle.standard_binders.specs.declared.binder.Binder.TheVariants as binder
 use Rattle.standard_binders.specs.Binders.{is_on_members}
 use Rattle.standard_binders.specs.Functions.{Functions}
 use Rattle.rule_model.specs.declared.claim.Claim.{Claim}
-use Rattle.rule_model.specs.MemberAnswers.{is_by_key}
+use Rattle.rule_model.specs.MemberAnswers.{IsMemberAnswer, is_by_key, reach_of}
 use Rattle.rule_model.specs.Soundness.{IsSound}
 use Rattle.rule_model.specs.Tests.{form_of, index_tests, key_tests, tests_by}
 use Rattle.rule_model.proofs.MemberSoundness.{long_sound, other_sound}
@@ -33,12 +33,12 @@ use Rattle.meta_object.specs.Metas.{CanBind, IsValueFor, class_in_shape, has_key
 use Rattle.meta_object.specs.Reaching.{key_in, reached_name, text_in}
 use Rattle.meta_object.proofs.Described.{described_hold}
 use Rattle.meta_object.proofs.Targets.{target_of}
-use Rattle.fallback.specs.Answers.{IsOwn, object_class}
+use Rattle.fallback.specs.Answers.{IsOnObject, IsOwn, IsRow, object_class, proper_name}
 use Rattle.fallback.specs.Own.{own_claim, own_node}
 use Rattle.fallback.proofs.KnownMetas.{own_binding}
 
 -- an object on whose members the operation is
-pub record IsOnObject (b : Binder) (metas : List MetaObject) (shown : ClassRef) : Type 0 where
+pub record HasObject (b : Binder) (metas : List MetaObject) (shown : ClassRef) : Type 0 where
   pub on : is_on_members b ≡ true
   pub target : target_class metas ≡ Some shown
 
@@ -46,7 +46,7 @@ by_on : (on : Bool) (class : Option ClassRef) (shown : ClassRef) → cond on cla
 by_on true class shown e = (refl, e)
 by_on false class shown e = cc
 
-pub on_object : (b : Binder) (metas : List MetaObject) (shown : ClassRef) → object_class b metas ≡ Some shown → IsOnObject b metas shown
+pub on_object : (b : Binder) (metas : List MetaObject) (shown : ClassRef) → object_class b metas ≡ Some shown → HasObject b metas shown
 on_object b metas shown e = let both = by_on (is_on_members b) (target_class metas) shown e in record { on = both.0; target = both.1 }
 
 -- its class is of the table
@@ -64,13 +64,26 @@ key_at (m ∷ []) key e = cc
 key_at (m ∷ k ∷ ms) key e = let same : k ≡ key = cc in ap (λ (j : MetaObject). text_in j.value) same
 
 -- a bound that is a binding is the language's own
-pub own_of : (functions : Functions) (pass : ClassPass) (b : Binder) (metas : List MetaObject) (shown : ClassRef) (bound : Bound) → object_class b metas ≡ Some shown
-    → IsBinding functions pass b metas bound → HasTests b metas bound → IsOwn functions pass b metas bound
-own_of functions pass b metas shown bound on binding tests = record {
+own_of : (functions : Functions) (pass : ClassPass) (b : Binder) (metas : List MetaObject) (shown : ClassRef) (name : Option (List ℕ)) (bound : Bound) → object_class b metas ≡ Some shown → proper_name (reached_name b metas) ≡ name
+    → IsBinding functions pass b metas bound → HasTests b metas bound → IsOnObject b shown name bound → IsOwn functions pass b metas bound
+own_of functions pass b metas shown name bound on named binding tests answer = record {
   binding = binding;
   tests = tests;
-  body = λ none. let no : Some shown ≡ None = sym on ∙ none in cc;
+  answer = subst (λ (o : Option ClassRef). MatchOption o (IsRow functions b metas bound) (λ class. IsOnObject b class (proper_name (reached_name b metas)) bound)) (sym on)
+      (subst (λ (n : Option (List ℕ)). IsOnObject b shown n bound) (sym named) answer);
 }
+
+-- a name that may be one, and one that may not
+proper : (reached : Option (List ℕ)) (name : List ℕ) → reached ≡ Some name → is_key name ≡ true → proper_name reached ≡ Some name
+proper reached name e short = ap proper_name e ∙ ap (λ b. cond b (Some name) None) short
+
+improper : (reached : Option (List ℕ)) (name : List ℕ) → reached ≡ Some name → is_key name ≡ false → proper_name reached ≡ None
+improper reached name e long = ap proper_name e ∙ ap (λ b. cond b (Some name) None) long
+
+pub member_own : (functions : Functions) (pass : ClassPass) (b : Binder) (metas : List MetaObject) (shown : ClassRef) (name : List ℕ) (bound : Bound) → object_class b metas ≡ Some shown → reached_name b metas ≡ Some name
+    → is_key name ≡ true → IsBinding functions pass b metas bound → HasTests b metas bound → IsMemberAnswer (reach_of b) (number_of shown) name bound.body bound.claim → IsOwn functions pass b metas bound
+member_own functions pass b metas shown name bound on reached short binding tests answer =
+    own_of functions pass b metas shown (Some name) bound on (proper (reached_name b metas) name reached short) binding tests answer
 
 -- what binds nothing of a class or of a function
 unclaimed : (functions : Functions) (pass : ClassPass) (b : Binder) (metas : List MetaObject) (bound : Bound) → HasTests b metas bound → bound.claim ≡ record { class = None; fun = None }
@@ -91,15 +104,15 @@ pub record IsNoKey (test : Restriction) (bound : Bound) : Type 0 where
   pub claim : bound.claim ≡ record { class = None; fun = None }
 
 no_key_own : (functions : Functions) (pass : ClassPass) (b : Binder) (metas : List MetaObject) (shown : ClassRef) (test : Restriction) (bound : Bound) → IsNoKey test bound
-    → object_class b metas ≡ Some shown → IsKind 0 kind.Obj ∷ test ∷ [] ≡ tests_by (form_of b) (map known_in metas)
+    → object_class b metas ≡ Some shown → proper_name (reached_name b metas) ≡ None → IsKind 0 kind.Obj ∷ test ∷ [] ≡ tests_by (form_of b) (map known_in metas)
     → IsSound b (all_hold (IsKind 0 kind.Obj ∷ test ∷ [])) (Throw NoIndex ∷ []) bound.claim → IsOwn functions pass b metas bound
-no_key_own functions pass b metas shown test bound made on tests sound =
+no_key_own functions pass b metas shown test bound made on unnamed tests sound =
     let has : HasTests b metas bound = made.tests ∙ tests in
-    own_of functions pass b metas shown bound on
+    own_of functions pass b metas shown None bound on unnamed
     (unclaimed functions pass b metas bound has made.claim
     (subst (λ (rs : List Restriction). IsSound b (all_hold rs) bound.body bound.claim) (sym made.tests)
     (subst (λ (ns : List Node). IsSound b (all_hold (IsKind 0 kind.Obj ∷ test ∷ [])) ns bound.claim) (sym made.body) sound)))
-    has
+    has (made.body, made.claim)
 
 no_class : (bound : Bound) → bound.claim ≡ record { class = None; fun = None } → bound.claim.class ≡ None
 no_class bound e = ap (λ (k : Claim). k.class) e
@@ -170,7 +183,7 @@ long_own functions table pass b metas shown name bound can class reached long ma
     let on = on_object b metas shown class in
     let by = long_key b metas name can.key on.on reached long in
     let key = key_there metas name (sym (by_key b metas by) ∙ reached) in
-    no_key_own functions pass b metas shown (LongKey 1) bound made class
+    no_key_own functions pass b metas shown (LongKey 1) bound made class (improper (reached_name b metas) name reached long)
     (keyed_tests b metas shown key.0 (IsKind 0 kind.Obj ∷ LongKey 1 ∷ []) by on.target key.1 (long_key_tests (number_of shown) (kind_in key.0.shape) key.0.value name key.2 long))
     (long_sound b bound.claim by (no_class bound made.claim))
 
@@ -195,7 +208,7 @@ other_own functions table pass b metas shown key bound can class reached there m
     let on = on_object b metas shown class in
     let by = other_key b metas on.on reached in
     let none : text_in key.value ≡ None = sym (key_at metas key there) ∙ sym (by_key b metas by) ∙ reached in
-    no_key_own functions pass b metas shown (IsKind 1 (kind_in key.shape)) bound made class
+    no_key_own functions pass b metas shown (IsKind 1 (kind_in key.shape)) bound made class (ap proper_name reached)
     (keyed_tests b metas shown key (IsKind 0 kind.Obj ∷ IsKind 1 (kind_in key.shape) ∷ []) by on.target there (other_key_tests (number_of shown) (kind_in key.shape) key.value none))
     (other_sound b (kind_in key.shape) bound.claim by (no_text (kind_in key.shape) key.value (can.valued 1 key there) none) (no_class bound made.claim))
 
@@ -205,5 +218,6 @@ pub row_own : (functions : Functions) (table : ClassTable) (pass : ClassPass) (b
 row_own functions table pass b metas bound can none tests body claim = record {
   binding = own_binding functions table pass b metas bound can (shows_none b metas none) tests body claim;
   tests = tests;
-  body = λ e. body;
+  answer = subst (λ (o : Option ClassRef). MatchOption o (IsRow functions b metas bound) (λ class. IsOnObject b class (proper_name (reached_name b metas)) bound)) (sym none)
+      (record { body = body; claim = claim });
 }

@@ -1,6 +1,6 @@
 //! The twelve fallbacks of the script language.
 ghost use Rattle.std.specs.Prelude.{IfOk};
-ghost use Rattle.meta_object.specs.Bindings.{IsBinding, IsFallback, IsSuggestion};
+ghost use Rattle.meta_object.specs.Bindings.{IsFallback, IsSoundAnswer, IsSuggestion};
 ghost use Rattle.meta_object.specs.Contexts.{KeepsContext};
 ghost use Rattle.meta_object.specs.Metas.{CanBind};
 ghost use Rattle.fallback.specs.Answers.{IsOwnFirst};
@@ -13,6 +13,8 @@ use std::sync::Wait;
 
 impl Language for Script {
     ghost functions = { λ script. script.functions.params };
+
+    ghost answers = { λ script. IsOwnFirst script.functions.params };
 
     fn funs(&self) -> &FunTable {
         &self.functions
@@ -29,9 +31,10 @@ impl Language for Script {
     ) -> Result<Bound, AllocError>
         requires can { CanBind self.now.functions.params cx.old.table.now cx.old.pass.now binder.now metas.now }
         requires suggestion { IsSuggestion self.now.functions.params cx.old.pass.now binder.now metas.now suggestion }
-        ensures bound { IfOk result (IsBinding self.now.functions.params cx.new.pass.now binder.now metas.now) }
+        ensures bound { IfOk result (λ bound.
+            IsSoundAnswer self.now.functions.params cx.new.pass.now binder.now metas.now suggestion bound) }
         ensures answer { IfOk result (IsFallback binder.now metas.now suggestion) }
-        ensures first { IfOk result (IsOwnFirst self.now.functions.params cx.new.pass.now binder.now metas.now suggestion) }
+        ensures answers { IfOk result (IsOwnFirst self.now.functions.params cx.new.pass.now binder.now metas.now suggestion) }
         ensures context { KeepsContext cx.old cx.new }
     {
         self.fallback(alloc, rt, cx, binder, metas, suggestion)
@@ -48,9 +51,10 @@ impl Language for Script {
     ) -> Result<Bound, AllocError>
         requires can { CanBind self.now.functions.params cx.old.table.now cx.old.pass.now binder.now metas.now }
         requires suggestion { IsSuggestion self.now.functions.params cx.old.pass.now binder.now metas.now suggestion }
-        ensures bound { IfOk result (IsBinding self.now.functions.params cx.new.pass.now binder.now metas.now) }
+        ensures bound { IfOk result (λ bound.
+            IsSoundAnswer self.now.functions.params cx.new.pass.now binder.now metas.now suggestion bound) }
         ensures answer { IfOk result (IsFallback binder.now metas.now suggestion) }
-        ensures first { IfOk result (IsOwnFirst self.now.functions.params cx.new.pass.now binder.now metas.now suggestion) }
+        ensures answers { IfOk result (IsOwnFirst self.now.functions.params cx.new.pass.now binder.now metas.now suggestion) }
         ensures context { KeepsContext cx.old cx.new }
     {
         self.fallback(alloc, rt, cx, binder, metas, suggestion)
@@ -67,9 +71,10 @@ impl Language for Script {
     ) -> Result<Bound, AllocError>
         requires can { CanBind self.now.functions.params cx.old.table.now cx.old.pass.now binder.now metas.now }
         requires suggestion { IsSuggestion self.now.functions.params cx.old.pass.now binder.now metas.now suggestion }
-        ensures bound { IfOk result (IsBinding self.now.functions.params cx.new.pass.now binder.now metas.now) }
+        ensures bound { IfOk result (λ bound.
+            IsSoundAnswer self.now.functions.params cx.new.pass.now binder.now metas.now suggestion bound) }
         ensures answer { IfOk result (IsFallback binder.now metas.now suggestion) }
-        ensures first { IfOk result (IsOwnFirst self.now.functions.params cx.new.pass.now binder.now metas.now suggestion) }
+        ensures answers { IfOk result (IsOwnFirst self.now.functions.params cx.new.pass.now binder.now metas.now suggestion) }
         ensures context { KeepsContext cx.old cx.new }
     {
         self.fallback(alloc, rt, cx, binder, metas, suggestion)
@@ -86,9 +91,10 @@ impl Language for Script {
     ) -> Result<Bound, AllocError>
         requires can { CanBind self.now.functions.params cx.old.table.now cx.old.pass.now binder.now metas.now }
         requires suggestion { IsSuggestion self.now.functions.params cx.old.pass.now binder.now metas.now suggestion }
-        ensures bound { IfOk result (IsBinding self.now.functions.params cx.new.pass.now binder.now metas.now) }
+        ensures bound { IfOk result (λ bound.
+            IsSoundAnswer self.now.functions.params cx.new.pass.now binder.now metas.now suggestion bound) }
         ensures answer { IfOk result (IsFallback binder.now metas.now suggestion) }
-        ensures first { IfOk result (IsOwnFirst self.now.functions.params cx.new.pass.now binder.now metas.now suggestion) }
+        ensures answers { IfOk result (IsOwnFirst self.now.functions.params cx.new.pass.now binder.now metas.now suggestion) }
         ensures context { KeepsContext cx.old cx.new }
     {
         self.fallback(alloc, rt, cx, binder, metas, suggestion)
@@ -105,9 +111,10 @@ impl Language for Script {
     ) -> Result<Bound, AllocError>
         requires can { CanBind self.now.functions.params cx.old.table.now cx.old.pass.now binder.now metas.now }
         requires suggestion { IsSuggestion self.now.functions.params cx.old.pass.now binder.now metas.now suggestion }
-        ensures bound { IfOk result (IsBinding self.now.functions.params cx.new.pass.now binder.now metas.now) }
+        ensures bound { IfOk result (λ bound.
+            IsSoundAnswer self.now.functions.params cx.new.pass.now binder.now metas.now suggestion bound) }
         ensures answer { IfOk result (IsFallback binder.now metas.now suggestion) }
-        ensures first { IfOk result (IsOwnFirst self.now.functions.params cx.new.pass.now binder.now metas.now suggestion) }
+        ensures answers { IfOk result (IsOwnFirst self.now.functions.params cx.new.pass.now binder.now metas.now suggestion) }
         ensures context { KeepsContext cx.old cx.new }
     {
         self.fallback(alloc, rt, cx, binder, metas, suggestion)
@@ -124,9 +131,10 @@ impl Language for Script {
     ) -> Result<Bound, AllocError>
         requires can { CanBind self.now.functions.params cx.old.table.now cx.old.pass.now binder.now metas.now }
         requires suggestion { IsSuggestion self.now.functions.params cx.old.pass.now binder.now metas.now suggestion }
-        ensures bound { IfOk result (IsBinding self.now.functions.params cx.new.pass.now binder.now metas.now) }
+        ensures bound { IfOk result (λ bound.
+            IsSoundAnswer self.now.functions.params cx.new.pass.now binder.now metas.now suggestion bound) }
         ensures answer { IfOk result (IsFallback binder.now metas.now suggestion) }
-        ensures first { IfOk result (IsOwnFirst self.now.functions.params cx.new.pass.now binder.now metas.now suggestion) }
+        ensures answers { IfOk result (IsOwnFirst self.now.functions.params cx.new.pass.now binder.now metas.now suggestion) }
         ensures context { KeepsContext cx.old cx.new }
     {
         self.fallback(alloc, rt, cx, binder, metas, suggestion)
@@ -143,9 +151,10 @@ impl Language for Script {
     ) -> Result<Bound, AllocError>
         requires can { CanBind self.now.functions.params cx.old.table.now cx.old.pass.now binder.now metas.now }
         requires suggestion { IsSuggestion self.now.functions.params cx.old.pass.now binder.now metas.now suggestion }
-        ensures bound { IfOk result (IsBinding self.now.functions.params cx.new.pass.now binder.now metas.now) }
+        ensures bound { IfOk result (λ bound.
+            IsSoundAnswer self.now.functions.params cx.new.pass.now binder.now metas.now suggestion bound) }
         ensures answer { IfOk result (IsFallback binder.now metas.now suggestion) }
-        ensures first { IfOk result (IsOwnFirst self.now.functions.params cx.new.pass.now binder.now metas.now suggestion) }
+        ensures answers { IfOk result (IsOwnFirst self.now.functions.params cx.new.pass.now binder.now metas.now suggestion) }
         ensures context { KeepsContext cx.old cx.new }
     {
         self.fallback(alloc, rt, cx, binder, metas, suggestion)
@@ -162,9 +171,10 @@ impl Language for Script {
     ) -> Result<Bound, AllocError>
         requires can { CanBind self.now.functions.params cx.old.table.now cx.old.pass.now binder.now metas.now }
         requires suggestion { IsSuggestion self.now.functions.params cx.old.pass.now binder.now metas.now suggestion }
-        ensures bound { IfOk result (IsBinding self.now.functions.params cx.new.pass.now binder.now metas.now) }
+        ensures bound { IfOk result (λ bound.
+            IsSoundAnswer self.now.functions.params cx.new.pass.now binder.now metas.now suggestion bound) }
         ensures answer { IfOk result (IsFallback binder.now metas.now suggestion) }
-        ensures first { IfOk result (IsOwnFirst self.now.functions.params cx.new.pass.now binder.now metas.now suggestion) }
+        ensures answers { IfOk result (IsOwnFirst self.now.functions.params cx.new.pass.now binder.now metas.now suggestion) }
         ensures context { KeepsContext cx.old cx.new }
     {
         self.fallback(alloc, rt, cx, binder, metas, suggestion)
@@ -181,9 +191,10 @@ impl Language for Script {
     ) -> Result<Bound, AllocError>
         requires can { CanBind self.now.functions.params cx.old.table.now cx.old.pass.now binder.now metas.now }
         requires suggestion { IsSuggestion self.now.functions.params cx.old.pass.now binder.now metas.now suggestion }
-        ensures bound { IfOk result (IsBinding self.now.functions.params cx.new.pass.now binder.now metas.now) }
+        ensures bound { IfOk result (λ bound.
+            IsSoundAnswer self.now.functions.params cx.new.pass.now binder.now metas.now suggestion bound) }
         ensures answer { IfOk result (IsFallback binder.now metas.now suggestion) }
-        ensures first { IfOk result (IsOwnFirst self.now.functions.params cx.new.pass.now binder.now metas.now suggestion) }
+        ensures answers { IfOk result (IsOwnFirst self.now.functions.params cx.new.pass.now binder.now metas.now suggestion) }
         ensures context { KeepsContext cx.old cx.new }
     {
         self.fallback(alloc, rt, cx, binder, metas, suggestion)
@@ -200,9 +211,10 @@ impl Language for Script {
     ) -> Result<Bound, AllocError>
         requires can { CanBind self.now.functions.params cx.old.table.now cx.old.pass.now binder.now metas.now }
         requires suggestion { IsSuggestion self.now.functions.params cx.old.pass.now binder.now metas.now suggestion }
-        ensures bound { IfOk result (IsBinding self.now.functions.params cx.new.pass.now binder.now metas.now) }
+        ensures bound { IfOk result (λ bound.
+            IsSoundAnswer self.now.functions.params cx.new.pass.now binder.now metas.now suggestion bound) }
         ensures answer { IfOk result (IsFallback binder.now metas.now suggestion) }
-        ensures first { IfOk result (IsOwnFirst self.now.functions.params cx.new.pass.now binder.now metas.now suggestion) }
+        ensures answers { IfOk result (IsOwnFirst self.now.functions.params cx.new.pass.now binder.now metas.now suggestion) }
         ensures context { KeepsContext cx.old cx.new }
     {
         self.fallback(alloc, rt, cx, binder, metas, suggestion)
@@ -219,9 +231,10 @@ impl Language for Script {
     ) -> Result<Bound, AllocError>
         requires can { CanBind self.now.functions.params cx.old.table.now cx.old.pass.now binder.now metas.now }
         requires suggestion { IsSuggestion self.now.functions.params cx.old.pass.now binder.now metas.now suggestion }
-        ensures bound { IfOk result (IsBinding self.now.functions.params cx.new.pass.now binder.now metas.now) }
+        ensures bound { IfOk result (λ bound.
+            IsSoundAnswer self.now.functions.params cx.new.pass.now binder.now metas.now suggestion bound) }
         ensures answer { IfOk result (IsFallback binder.now metas.now suggestion) }
-        ensures first { IfOk result (IsOwnFirst self.now.functions.params cx.new.pass.now binder.now metas.now suggestion) }
+        ensures answers { IfOk result (IsOwnFirst self.now.functions.params cx.new.pass.now binder.now metas.now suggestion) }
         ensures context { KeepsContext cx.old cx.new }
     {
         self.fallback(alloc, rt, cx, binder, metas, suggestion)
@@ -238,9 +251,10 @@ impl Language for Script {
     ) -> Result<Bound, AllocError>
         requires can { CanBind self.now.functions.params cx.old.table.now cx.old.pass.now binder.now metas.now }
         requires suggestion { IsSuggestion self.now.functions.params cx.old.pass.now binder.now metas.now suggestion }
-        ensures bound { IfOk result (IsBinding self.now.functions.params cx.new.pass.now binder.now metas.now) }
+        ensures bound { IfOk result (λ bound.
+            IsSoundAnswer self.now.functions.params cx.new.pass.now binder.now metas.now suggestion bound) }
         ensures answer { IfOk result (IsFallback binder.now metas.now suggestion) }
-        ensures first { IfOk result (IsOwnFirst self.now.functions.params cx.new.pass.now binder.now metas.now suggestion) }
+        ensures answers { IfOk result (IsOwnFirst self.now.functions.params cx.new.pass.now binder.now metas.now suggestion) }
         ensures context { KeepsContext cx.old cx.new }
     {
         self.fallback(alloc, rt, cx, binder, metas, suggestion)

@@ -2,7 +2,7 @@
 ghost use Rattle.std.specs.Prelude.{◌≡◌, ◌&&◌, ◌∷◌, [], IfOk, IsTrue, is_some, not};
 ghost use Rattle.std.specs.Option.{option_copied};
 ghost use Rattle.expr_tree.specs.Trees.{root};
-ghost use Rattle.meta_object.specs.Bindings.{IsBinding, IsFallback, IsSuggestion};
+ghost use Rattle.meta_object.specs.Bindings.{IsFallback, IsSoundAnswer, IsSuggestion};
 ghost use Rattle.meta_object.specs.Contexts.{KeepsContext};
 ghost use Rattle.meta_object.specs.Metas.{CanBind};
 ghost use Rattle.rule_model.specs.MemberAnswers as answers;
@@ -47,9 +47,10 @@ impl Script {
     ) -> Result<Bound, AllocError>
         requires can { CanBind self.now.functions.params cx.old.table.now cx.old.pass.now binder.now metas.now }
         requires suggestion { IsSuggestion self.now.functions.params cx.old.pass.now binder.now metas.now suggestion }
-        ensures bound { IfOk result (IsBinding self.now.functions.params cx.new.pass.now binder.now metas.now) }
+        ensures bound { IfOk result (λ bound.
+            IsSoundAnswer self.now.functions.params cx.new.pass.now binder.now metas.now suggestion bound) }
         ensures answer { IfOk result (IsFallback binder.now metas.now suggestion) }
-        ensures first { IfOk result (IsOwnFirst self.now.functions.params cx.new.pass.now binder.now metas.now suggestion) }
+        ensures answers { IfOk result (IsOwnFirst self.now.functions.params cx.new.pass.now binder.now metas.now suggestion) }
         ensures context { KeepsContext cx.old cx.new }
     {
         match suggestion {

@@ -1,57 +1,59 @@
-//! What is chosen of the language's own bound and a suggested one; expected texts are worked out by hand.
-use crate::script::answer;
-use dyn_value::{Fault, Kind, Value};
-use expr_tree::{Body, Node};
-use meta_object::Bound;
-use restrictions::Restrictions;
-use rule_model::Claim;
+//! What the language binds, by the bindings and by the fallbacks; expected texts are worked out by hand.
+mod bindings;
+mod calls;
+mod claims;
+mod members;
+mod metas;
+mod operation;
+mod operators;
+mod suggestions;
+mod values;
+
+use crate::tests::bindings::{Way, printed_bound};
+use crate::tests::calls::CALLS;
+use crate::tests::members::{KEYS, MEMBERS};
+use crate::tests::operation::{Operation, Row};
+use crate::tests::values::VALUES;
 use std::alloc::Global;
+use std::process::Abort;
+use std::sync::Wait;
 use std::test::Fail;
 
-/// The test and the body of a bound.
-fn printed(alloc: Global, bound: &Bound) -> Result<Vec<u8>, Fail> {
-    let mut out = Vec::new(alloc);
-    bound.restrictions.to_tree(alloc)?.print_to(&mut out)?;
-    out.push(b' ')?;
-    bound.body.tree().print_to(&mut out)?;
-    Ok(out)
-}
-
-/// The bound of an object that answers the node of a short word.
-fn of_object(alloc: Global, word: &str) -> Result<Bound, Fail> {
-    let node = match word {
-        "no index" => Node::Throw(Fault::NoIndex),
-        "full" => Node::Throw(Fault::MembersFull),
-        "call" => Node::Call(1),
-        "nil" => Node::Const(Value::Nil),
-        _ => Node::Read(0),
-    };
-    Ok(Bound {
-        restrictions: Restrictions::kind(alloc, 0, Kind::Obj)?,
-        body: Body::single(alloc, node)?,
-        claim: Claim {
-            class: None,
-            fun: None,
-        },
-    })
+/// That each row is bound as it says, by the binding and by the fallback of its binder.
+fn expect_rows<R: Abort + Wait>(rt: &R, alloc: Global, rows: &[Row]) -> Result<(), Fail> {
+    for &(asked, operands, names, want) in rows {
+        let operation = Operation {
+            asked,
+            operands,
+            names,
+        };
+        for way in [Way::Bind, Way::FallBack] {
+            let text = printed_bound(rt, alloc, operation, way)?;
+            assert!(rt;
+                text.as_slice() == want.as_bytes(),
+                "{way:?} {asked:?}: {want}"
+            );
+        }
+    }
+    Ok(())
 }
 
 #[test]
-fn what_is_suggested_takes_the_place_of_a_fault(rt: HostRuntime) -> Result<(), Fail> {
-    let alloc = rt.alloc();
-    let cases = [
-        ("read", "no index", "(kind 0 Obj) (read 0)"),
-        ("no index", "read", "(kind 0 Obj) (read 0)"),
-        ("no index", "full", "(kind 0 Obj) (throw MembersFull)"),
-        ("call", "read", "(kind 0 Obj) (call 1)"),
-        ("nil", "read", "(kind 0 Obj) (const nil)"),
-    ];
-    for (own, suggested, want) in cases {
-        let chosen = answer(of_object(alloc, own)?, of_object(alloc, suggested)?);
-        assert!(rt;
-            printed(alloc, &chosen)?.as_slice() == want.as_bytes(),
-            "{want}"
-        );
-    }
-    Ok(())
+fn members_of_objects(rt: HostRuntime) -> Result<(), Fail> {
+    expect_rows(&rt, rt.alloc(), &MEMBERS)
+}
+
+#[test]
+fn keys_of_objects(rt: HostRuntime) -> Result<(), Fail> {
+    expect_rows(&rt, rt.alloc(), &KEYS)
+}
+
+#[test]
+fn members_and_indexes_of_values(rt: HostRuntime) -> Result<(), Fail> {
+    expect_rows(&rt, rt.alloc(), &VALUES)
+}
+
+#[test]
+fn calls_and_creations(rt: HostRuntime) -> Result<(), Fail> {
+    expect_rows(&rt, rt.alloc(), &CALLS)
 }

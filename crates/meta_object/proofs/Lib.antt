@@ -1,4 +1,5 @@
 pub mod Described
+pub mod Handing
 pub mod MemberBounds
 pub mod Nexts
 pub mod OperandMetas

@@ -1,7 +1,7 @@
 //! The bindings of the twelve binders.
 ghost use Rattle.std.specs.Prelude.{IfOk, IsTrue};
 ghost use Rattle.meta_object.specs.BinderKinds.{is_binary_operation, is_convert, is_create_instance, is_delete_index, is_delete_member, is_get_index, is_get_member, is_invoke, is_invoke_member, is_set_index, is_set_member, is_unary_operation};
-ghost use Rattle.meta_object.specs.Bindings.{HasTests, IsBinding};
+ghost use Rattle.meta_object.specs.Bindings.{HasTests, IsAnswered, IsBinding};
 ghost use Rattle.meta_object.specs.Contexts.{KeepsContext};
 ghost use Rattle.meta_object.specs.Metas.{CanBind};
 
@@ -31,6 +31,8 @@ impl MetaObject {
         requires can { CanBind (L.functions lang.now) cx.old.table.now cx.old.pass.now binder.now metas.now }
         ensures bound { IfOk result (IsBinding (L.functions lang.now) cx.new.pass.now binder.now metas.now) }
         ensures tests { IfOk result (HasTests binder.now metas.now) }
+        ensures answer { IfOk result (λ bound.
+            IsAnswered (L.answers lang.now) (L.functions lang.now) cx.new.pass.now binder.now metas.now bound) }
         ensures context { KeepsContext cx.old cx.new }
     {
         let own = own_bound(alloc, rt, cx, binder, metas)?;
@@ -51,6 +53,8 @@ impl MetaObject {
         requires can { CanBind (L.functions lang.now) cx.old.table.now cx.old.pass.now binder.now metas.now }
         ensures bound { IfOk result (IsBinding (L.functions lang.now) cx.new.pass.now binder.now metas.now) }
         ensures tests { IfOk result (HasTests binder.now metas.now) }
+        ensures answer { IfOk result (λ bound.
+            IsAnswered (L.answers lang.now) (L.functions lang.now) cx.new.pass.now binder.now metas.now bound) }
         ensures context { KeepsContext cx.old cx.new }
     {
         let own = own_bound(alloc, rt, cx, binder, metas)?;
@@ -72,6 +76,8 @@ impl MetaObject {
         requires can { CanBind (L.functions lang.now) cx.old.table.now cx.old.pass.now binder.now metas.now }
         ensures bound { IfOk result (IsBinding (L.functions lang.now) cx.new.pass.now binder.now metas.now) }
         ensures tests { IfOk result (HasTests binder.now metas.now) }
+        ensures answer { IfOk result (λ bound.
+            IsAnswered (L.answers lang.now) (L.functions lang.now) cx.new.pass.now binder.now metas.now bound) }
         ensures context { KeepsContext cx.old cx.new }
     {
         let own = own_bound(alloc, rt, cx, binder, metas)?;
@@ -92,6 +98,8 @@ impl MetaObject {
         requires can { CanBind (L.functions lang.now) cx.old.table.now cx.old.pass.now binder.now metas.now }
         ensures bound { IfOk result (IsBinding (L.functions lang.now) cx.new.pass.now binder.now metas.now) }
         ensures tests { IfOk result (HasTests binder.now metas.now) }
+        ensures answer { IfOk result (λ bound.
+            IsAnswered (L.answers lang.now) (L.functions lang.now) cx.new.pass.now binder.now metas.now bound) }
         ensures context { KeepsContext cx.old cx.new }
     {
         let bound = lang.fallback_get_index(alloc, rt, cx, binder, metas, None)?;
@@ -111,6 +119,8 @@ impl MetaObject {
         requires can { CanBind (L.functions lang.now) cx.old.table.now cx.old.pass.now binder.now metas.now }
         ensures bound { IfOk result (IsBinding (L.functions lang.now) cx.new.pass.now binder.now metas.now) }
         ensures tests { IfOk result (HasTests binder.now metas.now) }
+        ensures answer { IfOk result (λ bound.
+            IsAnswered (L.answers lang.now) (L.functions lang.now) cx.new.pass.now binder.now metas.now bound) }
         ensures context { KeepsContext cx.old cx.new }
     {
         let bound = lang.fallback_set_index(alloc, rt, cx, binder, metas, None)?;
@@ -130,6 +140,8 @@ impl MetaObject {
         requires can { CanBind (L.functions lang.now) cx.old.table.now cx.old.pass.now binder.now metas.now }
         ensures bound { IfOk result (IsBinding (L.functions lang.now) cx.new.pass.now binder.now metas.now) }
         ensures tests { IfOk result (HasTests binder.now metas.now) }
+        ensures answer { IfOk result (λ bound.
+            IsAnswered (L.answers lang.now) (L.functions lang.now) cx.new.pass.now binder.now metas.now bound) }
         ensures context { KeepsContext cx.old cx.new }
     {
         let bound = lang.fallback_delete_index(alloc, rt, cx, binder, metas, None)?;
@@ -149,6 +161,8 @@ impl MetaObject {
         requires can { CanBind (L.functions lang.now) cx.old.table.now cx.old.pass.now binder.now metas.now }
         ensures bound { IfOk result (IsBinding (L.functions lang.now) cx.new.pass.now binder.now metas.now) }
         ensures tests { IfOk result (HasTests binder.now metas.now) }
+        ensures answer { IfOk result (λ bound.
+            IsAnswered (L.answers lang.now) (L.functions lang.now) cx.new.pass.now binder.now metas.now bound) }
         ensures context { KeepsContext cx.old cx.new }
     {
         let bound = lang.fallback_invoke(alloc, rt, cx, binder, metas, None)?;
@@ -169,6 +183,8 @@ impl MetaObject {
         requires can { CanBind (L.functions lang.now) cx.old.table.now cx.old.pass.now binder.now metas.now }
         ensures bound { IfOk result (IsBinding (L.functions lang.now) cx.new.pass.now binder.now metas.now) }
         ensures tests { IfOk result (HasTests binder.now metas.now) }
+        ensures answer { IfOk result (λ bound.
+            IsAnswered (L.answers lang.now) (L.functions lang.now) cx.new.pass.now binder.now metas.now bound) }
         ensures context { KeepsContext cx.old cx.new }
     {
         let own = own_bound(alloc, rt, cx, binder, metas)?;
@@ -189,6 +205,8 @@ impl MetaObject {
         requires can { CanBind (L.functions lang.now) cx.old.table.now cx.old.pass.now binder.now metas.now }
         ensures bound { IfOk result (IsBinding (L.functions lang.now) cx.new.pass.now binder.now metas.now) }
         ensures tests { IfOk result (HasTests binder.now metas.now) }
+        ensures answer { IfOk result (λ bound.
+            IsAnswered (L.answers lang.now) (L.functions lang.now) cx.new.pass.now binder.now metas.now bound) }
         ensures context { KeepsContext cx.old cx.new }
     {
         let bound = lang.fallback_create_instance(alloc, rt, cx, binder, metas, None)?;
@@ -208,6 +226,8 @@ impl MetaObject {
         requires can { CanBind (L.functions lang.now) cx.old.table.now cx.old.pass.now binder.now metas.now }
         ensures bound { IfOk result (IsBinding (L.functions lang.now) cx.new.pass.now binder.now metas.now) }
         ensures tests { IfOk result (HasTests binder.now metas.now) }
+        ensures answer { IfOk result (λ bound.
+            IsAnswered (L.answers lang.now) (L.functions lang.now) cx.new.pass.now binder.now metas.now bound) }
         ensures context { KeepsContext cx.old cx.new }
     {
         let bound = lang.fallback_convert(alloc, rt, cx, binder, metas, None)?;
@@ -227,6 +247,8 @@ impl MetaObject {
         requires can { CanBind (L.functions lang.now) cx.old.table.now cx.old.pass.now binder.now metas.now }
         ensures bound { IfOk result (IsBinding (L.functions lang.now) cx.new.pass.now binder.now metas.now) }
         ensures tests { IfOk result (HasTests binder.now metas.now) }
+        ensures answer { IfOk result (λ bound.
+            IsAnswered (L.answers lang.now) (L.functions lang.now) cx.new.pass.now binder.now metas.now bound) }
         ensures context { KeepsContext cx.old cx.new }
     {
         let bound = lang.fallback_unary_operation(alloc, rt, cx, binder, metas, None)?;
@@ -246,6 +268,8 @@ impl MetaObject {
         requires can { CanBind (L.functions lang.now) cx.old.table.now cx.old.pass.now binder.now metas.now }
         ensures bound { IfOk result (IsBinding (L.functions lang.now) cx.new.pass.now binder.now metas.now) }
         ensures tests { IfOk result (HasTests binder.now metas.now) }
+        ensures answer { IfOk result (λ bound.
+            IsAnswered (L.answers lang.now) (L.functions lang.now) cx.new.pass.now binder.now metas.now bound) }
         ensures context { KeepsContext cx.old cx.new }
     {
         let bound = lang.fallback_binary_operation(alloc, rt, cx, binder, metas, None)?;

@@ -12,15 +12,22 @@ use std::sync::Wait;
 /// suggestion where one is there and its own answer would be a fault, and else its own answer. The one error is want of
 /// memory; the table may then have a further class that no object has, and the pass may know it.
 pub trait Language {
-    ghost use Rattle.std.specs.Prelude.{◌≡◌, IsTrue, IfOk};
+    ghost use Rattle.std.specs.Prelude.{◌≡◌, IsTrue, IfOk, List, Option};
+    ghost use Rattle.expando_class.specs.declared.pass.ClassPass.{ClassPass};
+    ghost use Rattle.standard_binders.specs.declared.binder.Binder.{Binder};
     ghost use Rattle.standard_binders.specs.Functions.{Functions};
     ghost use Rattle.meta_object.specs.BinderKinds.{is_binary_operation, is_convert, is_create_instance, is_delete_index, is_delete_member, is_get_index, is_get_member, is_invoke, is_invoke_member, is_set_index, is_set_member, is_unary_operation};
-    ghost use Rattle.meta_object.specs.Bindings.{IsAbsent, IsBinding, IsFallback, IsSuggestion, read_name};
+    ghost use Rattle.meta_object.specs.declared.bound.Bound.{Bound};
+    ghost use Rattle.meta_object.specs.declared.meta.MetaObject.{MetaObject};
+    ghost use Rattle.meta_object.specs.Bindings.{IsAbsent, IsFallback, IsSoundAnswer, IsSuggestion, read_name};
     ghost use Rattle.meta_object.specs.Contexts.{KeepsContext};
     ghost use Rattle.meta_object.specs.Metas.{CanBind, target_class};
 
     // The names of the parameters of each function.
     ghost functions: { Self → Functions };
+
+    // What it answers to the operation of these metaobjects, where this is suggested.
+    ghost answers: { Self → ClassPass → Binder → List MetaObject → Option Bound → Bound → Type 0 };
 
     /// The functions.
     fn funs(&self) -> &FunTable
@@ -40,8 +47,10 @@ pub trait Language {
         requires can { CanBind (functions self.now) cx.old.table.now cx.old.pass.now binder.now metas.now }
         requires suggestion { IsSuggestion (functions self.now) cx.old.pass.now binder.now metas.now suggestion }
         requires absent { IsAbsent (read_name binder.now) (target_class metas.now) suggestion }
-        ensures bound { IfOk result (IsBinding (functions self.now) cx.new.pass.now binder.now metas.now) }
+        ensures bound { IfOk result (λ bound.
+            IsSoundAnswer (functions self.now) cx.new.pass.now binder.now metas.now suggestion bound) }
         ensures answer { IfOk result (IsFallback binder.now metas.now suggestion) }
+        ensures answers { IfOk result (answers self.now cx.new.pass.now binder.now metas.now suggestion) }
         ensures context { KeepsContext cx.old cx.new };
 
     /// The answer to `SetMember`.
@@ -58,8 +67,10 @@ pub trait Language {
         requires can { CanBind (functions self.now) cx.old.table.now cx.old.pass.now binder.now metas.now }
         requires suggestion { IsSuggestion (functions self.now) cx.old.pass.now binder.now metas.now suggestion }
         requires absent { IsAbsent (read_name binder.now) (target_class metas.now) suggestion }
-        ensures bound { IfOk result (IsBinding (functions self.now) cx.new.pass.now binder.now metas.now) }
+        ensures bound { IfOk result (λ bound.
+            IsSoundAnswer (functions self.now) cx.new.pass.now binder.now metas.now suggestion bound) }
         ensures answer { IfOk result (IsFallback binder.now metas.now suggestion) }
+        ensures answers { IfOk result (answers self.now cx.new.pass.now binder.now metas.now suggestion) }
         ensures context { KeepsContext cx.old cx.new };
 
     /// The answer to `DeleteMember`.
@@ -76,8 +87,10 @@ pub trait Language {
         requires can { CanBind (functions self.now) cx.old.table.now cx.old.pass.now binder.now metas.now }
         requires suggestion { IsSuggestion (functions self.now) cx.old.pass.now binder.now metas.now suggestion }
         requires absent { IsAbsent (read_name binder.now) (target_class metas.now) suggestion }
-        ensures bound { IfOk result (IsBinding (functions self.now) cx.new.pass.now binder.now metas.now) }
+        ensures bound { IfOk result (λ bound.
+            IsSoundAnswer (functions self.now) cx.new.pass.now binder.now metas.now suggestion bound) }
         ensures answer { IfOk result (IsFallback binder.now metas.now suggestion) }
+        ensures answers { IfOk result (answers self.now cx.new.pass.now binder.now metas.now suggestion) }
         ensures context { KeepsContext cx.old cx.new };
 
     /// The answer to `GetIndex`.
@@ -93,8 +106,10 @@ pub trait Language {
         requires binder { IsTrue (is_get_index binder.now) }
         requires can { CanBind (functions self.now) cx.old.table.now cx.old.pass.now binder.now metas.now }
         requires suggestion { IsSuggestion (functions self.now) cx.old.pass.now binder.now metas.now suggestion }
-        ensures bound { IfOk result (IsBinding (functions self.now) cx.new.pass.now binder.now metas.now) }
+        ensures bound { IfOk result (λ bound.
+            IsSoundAnswer (functions self.now) cx.new.pass.now binder.now metas.now suggestion bound) }
         ensures answer { IfOk result (IsFallback binder.now metas.now suggestion) }
+        ensures answers { IfOk result (answers self.now cx.new.pass.now binder.now metas.now suggestion) }
         ensures context { KeepsContext cx.old cx.new };
 
     /// The answer to `SetIndex`.
@@ -110,8 +125,10 @@ pub trait Language {
         requires binder { IsTrue (is_set_index binder.now) }
         requires can { CanBind (functions self.now) cx.old.table.now cx.old.pass.now binder.now metas.now }
         requires suggestion { IsSuggestion (functions self.now) cx.old.pass.now binder.now metas.now suggestion }
-        ensures bound { IfOk result (IsBinding (functions self.now) cx.new.pass.now binder.now metas.now) }
+        ensures bound { IfOk result (λ bound.
+            IsSoundAnswer (functions self.now) cx.new.pass.now binder.now metas.now suggestion bound) }
         ensures answer { IfOk result (IsFallback binder.now metas.now suggestion) }
+        ensures answers { IfOk result (answers self.now cx.new.pass.now binder.now metas.now suggestion) }
         ensures context { KeepsContext cx.old cx.new };
 
     /// The answer to `DeleteIndex`.
@@ -127,8 +144,10 @@ pub trait Language {
         requires binder { IsTrue (is_delete_index binder.now) }
         requires can { CanBind (functions self.now) cx.old.table.now cx.old.pass.now binder.now metas.now }
         requires suggestion { IsSuggestion (functions self.now) cx.old.pass.now binder.now metas.now suggestion }
-        ensures bound { IfOk result (IsBinding (functions self.now) cx.new.pass.now binder.now metas.now) }
+        ensures bound { IfOk result (λ bound.
+            IsSoundAnswer (functions self.now) cx.new.pass.now binder.now metas.now suggestion bound) }
         ensures answer { IfOk result (IsFallback binder.now metas.now suggestion) }
+        ensures answers { IfOk result (answers self.now cx.new.pass.now binder.now metas.now suggestion) }
         ensures context { KeepsContext cx.old cx.new };
 
     /// The answer to `Invoke`.
@@ -144,8 +163,10 @@ pub trait Language {
         requires binder { IsTrue (is_invoke binder.now) }
         requires can { CanBind (functions self.now) cx.old.table.now cx.old.pass.now binder.now metas.now }
         requires suggestion { IsSuggestion (functions self.now) cx.old.pass.now binder.now metas.now suggestion }
-        ensures bound { IfOk result (IsBinding (functions self.now) cx.new.pass.now binder.now metas.now) }
+        ensures bound { IfOk result (λ bound.
+            IsSoundAnswer (functions self.now) cx.new.pass.now binder.now metas.now suggestion bound) }
         ensures answer { IfOk result (IsFallback binder.now metas.now suggestion) }
+        ensures answers { IfOk result (answers self.now cx.new.pass.now binder.now metas.now suggestion) }
         ensures context { KeepsContext cx.old cx.new };
 
     /// The answer to `InvokeMember`.
@@ -162,8 +183,10 @@ pub trait Language {
         requires can { CanBind (functions self.now) cx.old.table.now cx.old.pass.now binder.now metas.now }
         requires suggestion { IsSuggestion (functions self.now) cx.old.pass.now binder.now metas.now suggestion }
         requires absent { IsAbsent (read_name binder.now) (target_class metas.now) suggestion }
-        ensures bound { IfOk result (IsBinding (functions self.now) cx.new.pass.now binder.now metas.now) }
+        ensures bound { IfOk result (λ bound.
+            IsSoundAnswer (functions self.now) cx.new.pass.now binder.now metas.now suggestion bound) }
         ensures answer { IfOk result (IsFallback binder.now metas.now suggestion) }
+        ensures answers { IfOk result (answers self.now cx.new.pass.now binder.now metas.now suggestion) }
         ensures context { KeepsContext cx.old cx.new };
 
     /// The answer to `CreateInstance`.
@@ -179,8 +202,10 @@ pub trait Language {
         requires binder { IsTrue (is_create_instance binder.now) }
         requires can { CanBind (functions self.now) cx.old.table.now cx.old.pass.now binder.now metas.now }
         requires suggestion { IsSuggestion (functions self.now) cx.old.pass.now binder.now metas.now suggestion }
-        ensures bound { IfOk result (IsBinding (functions self.now) cx.new.pass.now binder.now metas.now) }
+        ensures bound { IfOk result (λ bound.
+            IsSoundAnswer (functions self.now) cx.new.pass.now binder.now metas.now suggestion bound) }
         ensures answer { IfOk result (IsFallback binder.now metas.now suggestion) }
+        ensures answers { IfOk result (answers self.now cx.new.pass.now binder.now metas.now suggestion) }
         ensures context { KeepsContext cx.old cx.new };
 
     /// The answer to `Convert`.
@@ -196,8 +221,10 @@ pub trait Language {
         requires binder { IsTrue (is_convert binder.now) }
         requires can { CanBind (functions self.now) cx.old.table.now cx.old.pass.now binder.now metas.now }
         requires suggestion { IsSuggestion (functions self.now) cx.old.pass.now binder.now metas.now suggestion }
-        ensures bound { IfOk result (IsBinding (functions self.now) cx.new.pass.now binder.now metas.now) }
+        ensures bound { IfOk result (λ bound.
+            IsSoundAnswer (functions self.now) cx.new.pass.now binder.now metas.now suggestion bound) }
         ensures answer { IfOk result (IsFallback binder.now metas.now suggestion) }
+        ensures answers { IfOk result (answers self.now cx.new.pass.now binder.now metas.now suggestion) }
         ensures context { KeepsContext cx.old cx.new };
 
     /// The answer to `UnaryOperation`.
@@ -213,8 +240,10 @@ pub trait Language {
         requires binder { IsTrue (is_unary_operation binder.now) }
         requires can { CanBind (functions self.now) cx.old.table.now cx.old.pass.now binder.now metas.now }
         requires suggestion { IsSuggestion (functions self.now) cx.old.pass.now binder.now metas.now suggestion }
-        ensures bound { IfOk result (IsBinding (functions self.now) cx.new.pass.now binder.now metas.now) }
+        ensures bound { IfOk result (λ bound.
+            IsSoundAnswer (functions self.now) cx.new.pass.now binder.now metas.now suggestion bound) }
         ensures answer { IfOk result (IsFallback binder.now metas.now suggestion) }
+        ensures answers { IfOk result (answers self.now cx.new.pass.now binder.now metas.now suggestion) }
         ensures context { KeepsContext cx.old cx.new };
 
     /// The answer to `BinaryOperation`.
@@ -230,7 +259,9 @@ pub trait Language {
         requires binder { IsTrue (is_binary_operation binder.now) }
         requires can { CanBind (functions self.now) cx.old.table.now cx.old.pass.now binder.now metas.now }
         requires suggestion { IsSuggestion (functions self.now) cx.old.pass.now binder.now metas.now suggestion }
-        ensures bound { IfOk result (IsBinding (functions self.now) cx.new.pass.now binder.now metas.now) }
+        ensures bound { IfOk result (λ bound.
+            IsSoundAnswer (functions self.now) cx.new.pass.now binder.now metas.now suggestion bound) }
         ensures answer { IfOk result (IsFallback binder.now metas.now suggestion) }
+        ensures answers { IfOk result (answers self.now cx.new.pass.now binder.now metas.now suggestion) }
         ensures context { KeepsContext cx.old cx.new };
 }

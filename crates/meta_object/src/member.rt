@@ -6,7 +6,7 @@ ghost use Rattle.expando_class.specs.Pass.{IsPassOf};
 ghost use Rattle.object_model.specs.Accesses.{is_key};
 ghost use Rattle.standard_binders.specs.Functions.{Functions};
 ghost use Rattle.rule_model.specs.Claims.{IsPlaced};
-ghost use Rattle.rule_model.specs.MemberAnswers.{is_by_key};
+ghost use Rattle.rule_model.specs.MemberAnswers.{IsMemberAnswer, is_by_key, reach_of};
 ghost use Rattle.meta_object.specs.declared.meta.MetaObject.{MetaObject};
 ghost use Rattle.meta_object.specs.Bindings.{HasTests, IsBinding};
 ghost use Rattle.meta_object.specs.Contexts.{KeepsContext};
@@ -47,6 +47,8 @@ pub fn member_bound<R: Wait>(
     ensures tests { IfOk result (λ bound. (metas : List MetaObject) →
         target_class metas ≡ Some class.now → reached_name binder.now metas ≡ Some name.now →
         HasTests binder.now metas bound) }
+    ensures answer { IfOk result (λ bound.
+        IsMemberAnswer (reach_of binder.now) (number_of class.now) name.now bound.body bound.claim) }
     ensures context { KeepsContext cx.old cx.new }
 {
     let reach = Reach::of(binder);

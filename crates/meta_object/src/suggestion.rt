@@ -5,7 +5,7 @@ ghost use Rattle.expando_class.specs.Class.{IsClassOf, names_of};
 ghost use Rattle.expando_class.specs.Pass.{IsPassOf};
 ghost use Rattle.rule_model.specs.MemberAnswers.{name_of};
 ghost use Rattle.standard_binders.specs.Functions.{Functions};
-ghost use Rattle.meta_object.specs.Bindings.{HasTests, IsAbsent, IsSuggestion, is_missing, is_suggested, read_name};
+ghost use Rattle.meta_object.specs.Bindings.{HasTests, IsAbsent, IsBinding, IsOnMember, is_missing, is_suggested, read_name};
 ghost use Rattle.meta_object.specs.Contexts.{KeepsContext};
 ghost use Rattle.meta_object.specs.Metas.{has_key, target_class};
 ghost use Rattle.meta_object.specs.Reaching.{is_for_old};
@@ -34,9 +34,11 @@ pub(crate) fn own_bound<R: Wait>(
     requires key { IsTrue (has_key binder.now) }
     requires own { IsPassOf cx.old.table.now cx.old.pass.now }
     requires of { IfSome (target_class metas.now) (IsClassOf cx.old.table.now) }
-    ensures suggestion { IfOk result (λ own. (functions : Functions) →
-        IsSuggestion functions cx.new.pass.now binder.now metas.now own) }
+    ensures binding { IfOk result (λ own. (functions : Functions) →
+        IfSome own (IsBinding functions cx.new.pass.now binder.now metas.now)) }
     ensures tests { IfOk result (λ own. IfSome own (HasTests binder.now metas.now)) }
+    ensures member { IfOk result (λ own.
+        IfSome own (IsOnMember binder.now (target_class metas.now) (name_of binder.now))) }
     ensures exactly { IfOk result (λ own. is_some own ≡ is_suggested (read_name binder.now) (target_class metas.now)) }
     ensures absent { IfOk result (IsAbsent (read_name binder.now) (target_class metas.now)) }
     ensures context { KeepsContext cx.old cx.new }

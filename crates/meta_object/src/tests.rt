@@ -24,6 +24,8 @@ struct Echo {
 impl Language for Echo {
     ghost functions = { λ language. language.functions.params };
 
+    ghost answers = { λ language pass binder metas suggestion bound. suggestion ≡ Some bound };
+
     fn funs(&self) -> &FunTable {
         &self.functions
     }

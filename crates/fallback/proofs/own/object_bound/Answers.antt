@@ -1,8 +1,8 @@
 -- The member's bound, and the bound of a key that names none, are the language's own.
-use Rattle.std.proofs.Common.{◌≡◌, rules, false, sym, ◌∙◌, None, Some}
+use Rattle.std.proofs.Common.{◌≡◌, rules, true, false, sym, ◌∙◌, None, Some}
 use Rattle.object_model.specs.Accesses.{is_key as may_be_name}
 use Rattle.meta_object.specs.Reaching.{reached_name as name_in}
-use Rattle.fallback.proofs.ObjectBounds.{long_own, of_table, on_object, other_own, own_of}
+use Rattle.fallback.proofs.ObjectBounds.{long_own, member_own, of_table, on_object, other_own}
 use Rattle.fallback.proofs.own.object_bound.Goals as goal
 
 pub member_bound-requires-clause-of : goal.member_bound-requires-clause-of
@@ -13,8 +13,10 @@ pub returns-in_ok-own-in-Some-clause-own : goal.returns-in_ok-own-in-Some-clause
 returns-in_ok-own-in-Some-clause-own g c =
     let named : name_in c.args.binder.now c.args.metas.now ≡ Some c.in-Some.name.now = search rules in
     let on = on_object c.args.binder.now c.args.metas.now c.args.class.now c.requires.class in
-    own_of c.args.functions.now.params c.member_bound.new.cx.pass.now c.args.binder.now c.args.metas.now c.args.class.now c.in_ok-own-in-Some.own c.requires.class
+    let short : may_be_name c.in-Some.name.now ≡ true = sym c.is_key.ensures ∙ c.if-is_key.true in
+    member_own c.args.functions.now.params c.member_bound.new.cx.pass.now c.args.binder.now c.args.metas.now c.args.class.now c.in-Some.name.now c.in_ok-own-in-Some.own c.requires.class named short
     (c.in_ok-own-in-Some.ensures.bound c.args.functions.now.params c.args.metas.now on.target named) (c.in_ok-own-in-Some.ensures.tests c.args.metas.now on.target named)
+    c.in_ok-own-in-Some.ensures.answer
 
 pub returns-in_ok-long-in-Some-2-clause-own : goal.returns-in_ok-long-in-Some-2-clause-own
 returns-in_ok-long-in-Some-2-clause-own g c =
