@@ -7,6 +7,8 @@ mod input_source;
 mod intake;
 mod mem_sink;
 mod mem_source;
+#[cfg(test)]
+mod mem_tests;
 mod output;
 mod output_sink;
 mod sink;

@@ -55,6 +55,8 @@ impl CallPlan {
     fn fails_next(&self) -> bool
         ensures { IsTrue result ↔ FailsNext self.now }
     {
-        self.fails.iter().any(|number| u64::from(*number) == self.calls)
+        self.fails
+            .iter()
+            .any(|number| u64::from(*number) == self.calls)
     }
 }

@@ -29,9 +29,9 @@ impl MemSource {
 }
 
 impl Source for MemSource {
-    ghost use Rattle.std.specs.Prelude.{◌≡◌, ◌++◌, length, min, take, drop, Some, IfOk, OnErr};
-    ghost use Rattle.dlr_top.specs.CallPlans.{most_of, MakesCall};
-    ghost use Rattle.dlr_top.specs.MemDevices.{source_bytes, source_plan};
+    ghost use Rattle.std.specs.Prelude.{◌≡◌, ◌++◌, length, take, drop, Some, IfOk, OnErr};
+    ghost use Rattle.dlr_top.specs.CallPlans.{MakesCall};
+    ghost use Rattle.dlr_top.specs.MemDevices.{source_bytes, source_plan, given_count};
 
     ghost held = { λ s. Some (source_bytes s) };
 
@@ -42,7 +42,7 @@ impl Source for MemSource {
     /// It fails exactly where the number of this read is listed. Then nothing is taken, and `into` stays.
     fn read(&mut self, into: &mut [u8]) -> Result<usize, Failed>
         ensures call { MakesCall (source_plan self.old) (source_plan self.new) result }
-        ensures count { IfOk result (λ n. n ≡ most_of (source_plan self.old) (min (length into.old) (length (source_bytes self.old)))) }
+        ensures count { IfOk result (λ n. n ≡ given_count self.old (length into.old)) }
         ensures bytes { IfOk result (λ n. source_bytes self.old ≡ take n into.new ++ source_bytes self.new) }
         ensures rest { IfOk result (λ n. drop n into.new ≡ drop n into.old) }
         ensures kept { OnErr result (source_bytes self.new ≡ source_bytes self.old) }
