@@ -1,6 +1,6 @@
 -- How the bytes of a source and of a sink go on from call to call.
 use Rattle.std.proofs.Common.{◌≡◌, ◌≢◌, ℕ, ◌+◌, ◌<◌, ◌≤◌, ◌⊎◌, inl, inr, IfSome, List, [], ◌++◌, length, take, drop, Option, None, Some, refl, sym, ◌∙◌, ap, subst, append_assoc, take-append-drop, length-drop, arith}
-use Rattle.std.proofs.lemmas.List.{append-nil, take_at, take_all, drop_at, drop_all, drop-drop}
+use Rattle.std.proofs.lemmas.List.{append-nil, take_at, take_all, drop_at, drop_all, drop-drop, drop-append-le, length-take-le}
 use Rattle.std.proofs.Math.Seq.{take-add}
 use Rattle.dlr_top.specs.Devices.{TakesFirst, IsAtEnd, IsReadThrough, Adds, AddsFirst, AddsProperFront}
 
@@ -10,6 +10,15 @@ piece_moves bytes copied room at count is long =
     sym (take-append-drop count (drop at bytes))
     ∙ ap (λ (l : List ℕ). l ++ drop count (drop at bytes)) (sym is ∙ sym (take_at copied room count long))
     ∙ ap (λ (l : List ℕ). take count (copied ++ room) ++ l) (drop-drop count at bytes)
+
+-- what a call left of a part that it was lent is left of the whole
+pub part_kept : (whole part : List ℕ) (most n : ℕ) → length part ≡ most → most ≤ length whole → n ≤ most → drop n part ≡ drop n (take most whole) → drop n (part ++ drop most whole) ≡ drop n whole
+part_kept whole part most n long fits within kept =
+    let short : length (take most whole) ≡ most = length-take-le most whole fits in
+    drop-append-le n part (drop most whole) (omega arith)
+    ∙ ap (λ (l : List ℕ). l ++ drop most whole) kept
+    ∙ sym (drop-append-le n (take most whole) (drop most whole) (omega arith))
+    ∙ ap (λ (l : List ℕ). drop n l) (take-append-drop most whole)
 
 pub takes_nothing : (before : Option (List ℕ)) → TakesFirst before before []
 takes_nothing None = refl

@@ -1,9 +1,11 @@
+pub mod CallPlans
 pub mod Clean
 pub mod Commands
 pub mod Devices
 pub mod Edges
 pub mod Headline
 pub mod Lawful
+pub mod MemDevices
 pub mod Recorded
 pub mod Rendering
 pub mod TaskRuns

@@ -1,9 +1,14 @@
 //! Where bytes come from and go to: sources and sinks, in memory and over a reader and a writer.
 
+mod call_plan;
 mod clean_sink;
 mod clean_source;
 mod input_source;
 mod intake;
+mod mem_sink;
+mod mem_source;
+#[cfg(test)]
+mod mem_tests;
 mod output;
 mod output_sink;
 mod sink;
@@ -13,6 +18,8 @@ pub use clean_sink::CleanSink;
 pub use clean_source::CleanSource;
 pub use input_source::InputSource;
 pub(crate) use intake::{Unread, read_all};
+pub use mem_sink::MemSink;
+pub use mem_source::MemSource;
 pub(crate) use output::{Unwritten, deliver};
 pub use output_sink::OutputSink;
 pub use sink::Sink;

@@ -13,7 +13,9 @@ mod tests;
 mod words;
 
 pub use command::{TopOutcome, top};
-pub use devices::{CleanSink, CleanSource, Failed, InputSource, OutputSink, Sink, Source};
+pub use devices::{
+    CleanSink, CleanSource, Failed, InputSource, MemSink, MemSource, OutputSink, Sink, Source,
+};
 pub use gate::{Gate, OpenGate};
 pub use report::{Report, TaskEnd, render};
 pub use status::{

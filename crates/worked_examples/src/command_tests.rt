@@ -1,3 +1,4 @@
+use crate::journals::JOURNALS;
 use dlr_top::{CleanSink, CleanSource, OpenGate, top};
 use dyn_value::DynText;
 use std::alloc::Global;
@@ -160,31 +161,15 @@ fn scripts_that_break_a_rule(rt: HostRuntime) -> Result<(), Fail> {
 
 #[test]
 fn journals(rt: HostRuntime) -> Result<(), Fail> {
-    let rows = [
-        ("run --journal", "", "", 0),
-        (
-            "run --serial --journal",
-            "shared s; task a { s.n = 1; } task b { print s.n; }",
-            "b: 1\nobject 0\n  a SetMember \"n\" 1 -> nil\n  b GetMember \"n\" -> 1\n  members \"n\" 1\n",
-            0,
-        ),
-        (
-            "run --journal",
-            "shared s; task a { print s.x; }",
-            "a! NoMember \"x\"\nobject 0\n  a GetMember \"x\" -> ! NoMember \"x\"\n  members\n",
-            1,
-        ),
-        (
-            "run --journal --serial",
-            "shared s; task a { let o = new(); o.x = s; o.y = o; delete o.x; o.x = nil; }",
-            "object 0\n  members\nobject 1\n  a SetMember \"x\" obj#0 -> nil\n  a SetMember \"y\" obj#1 -> nil\n  a DeleteMember \"x\" -> nil\n  a SetMember \"x\" nil -> nil\n  members \"y\" obj#1, \"x\" nil\n",
-            0,
-        ),
-    ];
-    for (words, script, written, status) in rows {
-        let ran = run(&rt, rt.alloc(), words, script.as_bytes())?;
-        assert_eq!(rt; ran.written.as_slice(), written.as_bytes(), "{script}");
-        assert_eq!(rt; ran.status, status, "{script}");
+    for example in JOURNALS {
+        let ran = run(&rt, rt.alloc(), example.words, example.script.as_bytes())?;
+        assert_eq!(rt;
+            ran.written.as_slice(),
+            example.text.as_bytes(),
+            "{}",
+            example.script
+        );
+        assert_eq!(rt; ran.status, example.status, "{}", example.script);
     }
     Ok(())
 }

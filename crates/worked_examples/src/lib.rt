@@ -3,3 +3,7 @@
 
 #[cfg(test)]
 mod command_tests;
+#[cfg(test)]
+mod failing_tests;
+#[cfg(test)]
+mod journals;

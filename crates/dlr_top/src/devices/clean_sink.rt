@@ -35,7 +35,7 @@ impl CleanSink {
 }
 
 impl Sink for CleanSink {
-    ghost use Rattle.std.specs.Prelude.{Some};
+    ghost use Rattle.std.specs.Prelude.{◌≡◌, ◌+◌, ◌≤◌, ◌++◌, length, Some, Ok, OnOk, OnErr};
     ghost use Rattle.dlr_top.specs.Clean.{taken_bytes, reserved_room};
 
     ghost has = { λ s. Some (taken_bytes s) };
@@ -52,7 +52,13 @@ impl Sink for CleanSink {
         Ok(())
     }
 
-    fn write(&mut self, piece: &[u8]) -> Result<usize, Failed> {
+    /// Takes the whole piece.
+    fn write(&mut self, piece: &[u8]) -> Result<usize, Failed>
+        requires { length piece.now ≤ reserved_room self.old }
+        ensures count { result ≡ Ok (length piece.now) }
+        ensures bytes { taken_bytes self.new ≡ taken_bytes self.old ++ piece.now }
+        ensures room { reserved_room self.new + length piece.now ≡ reserved_room self.old }
+    {
         match self.bytes.extend_from_slice(piece) {
             Ok(()) => {
                 self.room -= piece.len();

@@ -32,13 +32,18 @@ impl CleanSource {
 }
 
 impl Source for CleanSource {
-    ghost use Rattle.std.specs.Prelude.{Some};
+    ghost use Rattle.std.specs.Prelude.{◌≡◌, ◌++◌, length, min, take, drop, Some, Ok, IfOk};
 
     ghost held = { λ s. Some s };
 
     ghost faults = { λ _. 0 };
 
-    fn read(&mut self, into: &mut [u8]) -> Result<usize, Failed> {
+    /// Gives as many bytes as there are and as `into` has room for, and leaves the rest of `into`.
+    fn read(&mut self, into: &mut [u8]) -> Result<usize, Failed>
+        ensures count { result ≡ Ok (min (length into.old) (length self.old)) }
+        ensures bytes { IfOk result (λ n. self.old ≡ take n into.new ++ self.new) }
+        ensures rest { IfOk result (λ n. drop n into.new ≡ drop n into.old) }
+    {
         let count = into.len().min(self.bytes.len() - self.at);
         let piece = &self.bytes[self.at..self.at + count];
         into[..count].copy_from_slice(piece);

@@ -1,4 +1,4 @@
-use Rattle.std.proofs.Common.{◌≡◌, ◌+◌, ◌-◌, length, take, drop, refl, sym, ◌∙◌, ap, arith}
+use Rattle.std.proofs.Common.{◌≡◌, ◌+◌, ◌-◌, length, take, drop, sym, ◌∙◌, ap, arith}
 use Rattle.std.proofs.lemmas.List.{length-take-le}
 use Rattle.dlr_top.proofs.Moves.{piece_moves}
 use Rattle.dlr_top.proofs.devices.clean_source.CleanSourceSource.read.Goals as goal
@@ -12,4 +12,4 @@ returns-clause-bytes c =
     let copied : c.copy_from_slice.new.self ≡ take count (drop at held) =
     c.copy_from_slice.ensures.after ∙ ap (λ n. take n (drop at c.deref.result.now)) width ∙ ap (λ bytes. take count (drop at bytes)) c.deref.ensures.value in
     let long : length c.copy_from_slice.new.self ≡ count = c.copy_from_slice.ensures.len ∙ length-take-le count c.args.into.now (omega arith) in
-    (_, (sym c.self.view_is ∙ piece_moves held c.copy_from_slice.new.self (drop count c.args.into.now) at count copied long, refl))
+    sym c.self.view_is ∙ piece_moves held c.copy_from_slice.new.self (drop count c.args.into.now) at count copied long
