@@ -1,8 +1,9 @@
 -- The metaobjects that the tests make of operands.
-use Rattle.std.proofs.Common.{◌≡◌, ℕ, zero, suc, Bool, true, false, ◌&&◌, cond, not, List, [], ◌∷◌, ◌++◌, length, Option, None, Some, IfSome, IsTrue, refl, sym, ◌∙◌, ap, subst, slice_get}
+use Rattle.std.proofs.Common.{◌≡◌, ℕ, zero, suc, Bool, true, false, cond, List, [], ◌∷◌, ◌++◌, length, Option, None, Some, IfSome, IsTrue, refl, sym, ◌∙◌, ap, subst, slice_get, get_or}
 use Rattle.std.specs.List.{list_all}
 use Rattle.std.specs.Option.{option_map}
 use Rattle.std.proofs.lemmas.Bool.{and_parts}
+use Rattle.std.proofs.lemmas.Option.{get_or_from_slice_get}
 use Rattle.dyn_value.specs.declared.fault.Fault.TheVariants.{NoIndex}
 use Rattle.dyn_value.specs.declared.value.Kind.TheVariants as kind
 use Rattle.dyn_value.specs.declared.value.Value.{Value}
@@ -25,6 +26,7 @@ use Rattle.rule_model.proofs.MemberSoundness.{long_sound}
 use Rattle.meta_object.specs.declared.bound.Bound.{Bound}
 use Rattle.meta_object.specs.Bindings.{IsSoundFor}
 use Rattle.meta_object.specs.declared.meta.MetaObject.{MetaObject}
+use Rattle.meta_object.specs.Metas.{IsMetaOf}
 use Rattle.meta_object.specs.Operands.{IsLentFor, lent_at}
 
 -- what holds of each element and of one more
@@ -34,6 +36,22 @@ appended [] x P all last zero m e = subst (P 0) (let same : x ≡ m = cc in same
 appended [] x P all last (suc i) m e = cc
 appended (y ∷ ys) x P all last zero m e = all zero m e
 appended (y ∷ ys) x P all last (suc i) m e = appended ys x (λ k. P (suc k)) (λ k. all (suc k)) last i m e
+
+-- a metaobject more is that of its operand
+last_meta : (operands : List Value) (class : Option ClassRef) (place n : ℕ) (value : Value) (meta : MetaObject) → n ≡ place → value ≡ get_or operands place value → IsMetaOf place value (lent_at place class) meta
+    → (v : Value) → slice_get operands n ≡ Some v → IsMetaOf n v (lent_at n class) meta
+last_meta operands class place n value meta count element is v stands =
+    let there : slice_get operands place ≡ Some v = subst (λ (k : ℕ). slice_get operands k ≡ Some v) count stands in
+    let same : value ≡ v = element ∙ get_or_from_slice_get operands place v value there in
+    subst (λ (k : ℕ). IsMetaOf k v (lent_at k class) meta) (sym count) (subst (λ (k : Value). IsMetaOf place k (lent_at place class) meta) same is)
+
+pub metas_more : (operands : List Value) (class : Option ClassRef) (xs ys : List MetaObject) (place : ℕ) (value : Value) (meta : MetaObject) → length xs ≡ place
+    → ((i : ℕ) (m : MetaObject) (v : Value) → slice_get xs i ≡ Some m → slice_get operands i ≡ Some v → IsMetaOf i v (lent_at i class) m) → ys ≡ xs ++ meta ∷ []
+    → value ≡ get_or operands place value → IsMetaOf place value (lent_at place class) meta
+    → (i : ℕ) (m : MetaObject) (v : Value) → slice_get ys i ≡ Some m → slice_get operands i ≡ Some v → IsMetaOf i v (lent_at i class) m
+metas_more operands class xs ys place value meta count each more element is i m v e stands =
+    appended xs meta (λ k n. (w : Value) → slice_get operands k ≡ Some w → IsMetaOf k w (lent_at k class) n) (λ k n there w stand. each k n w there stand)
+    (last_meta operands class place (length xs) value meta count element is) i m (subst (λ (l : List MetaObject). slice_get l i ≡ Some m) more e) v stands
 
 -- to no operand after the target the class is lent
 pub lent_past : (place : ℕ) (class : Option ClassRef) → (place ≡ 0 → ⊥) → lent_at place class ≡ None

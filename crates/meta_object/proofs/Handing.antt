@@ -15,7 +15,7 @@ use Rattle.meta_object.specs.declared.bound.Bound.{Bound}
 use Rattle.meta_object.specs.declared.context.BindContext.{BindContext}
 use Rattle.meta_object.specs.declared.meta.MetaObject.{MetaObject}
 use Rattle.meta_object.specs.BinderKinds.{is_binary_operation, is_convert, is_create_instance, is_delete_index, is_delete_member, is_get_index, is_get_member, is_invoke, is_invoke_member, is_set_index, is_set_member, is_unary_operation}
-use Rattle.meta_object.specs.Bindings.{HasTests, IsAnswered, IsBinding, IsClaimed, IsHanded, IsOnMember, IsSoundAnswer, IsSoundFor, IsSuggestion, Serves, is_suggested, read_name}
+use Rattle.meta_object.specs.Bindings.{HasTests, IsBinding, IsClaimed, IsHanded, IsOnMember, IsSoundAnswer, IsSoundFor, IsSuggestion, Serves, is_suggested, read_name}
 use Rattle.meta_object.specs.Contexts.{KeepsContext}
 use Rattle.meta_object.specs.Metas.{target_class}
 

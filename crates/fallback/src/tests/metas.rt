@@ -1,5 +1,5 @@
 //! The metaobjects of the operands of an operation.
-ghost use Rattle.std.specs.Prelude.{◌≡◌, ◌<◌, ◌≤◌, ℕ, if◌then◌else◌, IfOk, IsTrue, length, None, Some, slice_get};
+ghost use Rattle.std.specs.Prelude.{◌≡◌, ◌<◌, ◌≤◌, if◌then◌else◌, IfOk, length, None, Some, slice_get};
 ghost use Rattle.std.specs.List.{list_all};
 ghost use Rattle.std.specs.Option.{option_copied};
 ghost use Rattle.dyn_value.specs.declared.value.Value.{Value};
@@ -19,6 +19,9 @@ use standard_binders::{Binder, FunTable};
 use std::alloc::{AllocError, Global};
 use std::test::Fail;
 
+/// The most operands of an operation: its target, and as many arguments as a call may have.
+const MOST_OPERANDS: usize = 17;
+
 /// The metaobjects of the operands of an operation that may be bound. The class is that of the target, where the
 /// operation is on an object.
 pub(crate) fn metas_for(
@@ -34,8 +37,11 @@ pub(crate) fn metas_for(
     requires of { IsClassOf table.now class.now }
     ensures { IfOk result (λ metas. CanBind functions.now.params table.now pass.now binder.now metas.items) }
 {
-    let suit = binder.operand_count() as usize == operands.len();
-    if !suit || !has_key(binder) || !are_callable(functions, operands) {
+    let count = operands.len();
+    if count != binder.operand_count() as usize || count > MOST_OPERANDS {
+        return Err(Fail::new("other operands"));
+    }
+    if !has_key(binder) || !are_callable(functions, operands) {
         return Err(Fail::new("no operation"));
     }
     let lent = lent_for(binder, operands, class);
@@ -92,8 +98,8 @@ fn metas_of(
     operands: &[Value],
     class: Option<&ClassRef>,
 ) -> Result<Vec<MetaObject>, AllocError>
-    requires few { length operands.now ≤ 256 }
-    requires lendable { (v : Value) → slice_get operands.now 0 ≡ Some v → IsLendable (option_copied class.entry) v }
+    requires few { length operands.now ≤ MOST_OPERANDS }
+    requires lendable { (v : Value) → slice_get operands.now 0 ≡ Some v → IsLendable (option_copied class) v }
     ensures { IfOk result (λ metas. AreMetasOf operands.now (option_copied class.entry) metas.items) }
 {
     let mut metas = Vec::new(alloc);
@@ -112,7 +118,7 @@ fn meta_of(
     class: Option<&ClassRef>,
 ) -> Result<MetaObject, AllocError>
     requires few { place < 256 }
-    requires lendable { place ≡ 0 → IsLendable (option_copied class.entry) value.now }
+    requires lendable { place ≡ 0 → IsLendable (option_copied class) value.now }
     ensures { IfOk result (IsMetaOf place value.now (lent_at place (option_copied class.entry))) }
 {
     match place {

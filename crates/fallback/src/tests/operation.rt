@@ -24,7 +24,7 @@ pub(crate) enum Asked {
 }
 
 /// An operand as a table writes it.
-#[derive(Clone, Copy, Debug)]
+#[derive(Clone, Copy)]
 pub(crate) enum Operand {
     Nil,
     Bool,
@@ -35,7 +35,7 @@ pub(crate) enum Operand {
 }
 
 /// An operation: what is asked of which operands. The target is of the class with these names, where it is an object.
-#[derive(Clone, Copy, Debug)]
+#[derive(Clone, Copy)]
 pub(crate) struct Operation<'a> {
     pub asked: Asked,
     pub operands: &'a [Operand],

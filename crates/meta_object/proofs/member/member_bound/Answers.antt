@@ -42,7 +42,7 @@ returns-clause-answer g c =
     let moved : c.unwrap_or.result ≡ number_in next = c.unwrap_or.ensures ∙ ap (λ (o : Option ℕ). unwrap_or o 0) c.number_of-after.ensures ∙ number_there next in
     let node : c.in_ok-node.node ≡ member_node c.of-reach.result c.args.name.now place full c.unwrap_or.result = c.in_ok-node.ensures in
     let moves : IsNext c.class_after.new.cx.pass.now c.args.class.now (reach_of c.args.binder.now) c.args.name.now place next =
-        subst (λ (r : Reach). IsNext c.class_after.new.cx.pass.now c.args.class.now r c.args.name.now place next) c.of-reach.ensures c.in_ok-next.ensures.next in
+    subst (λ (r : Reach). IsNext c.class_after.new.cx.pass.now c.args.class.now r c.args.name.now place next) c.of-reach.ensures c.in_ok-next.ensures.next in
     record {
       claimed = record { class = c.number.result; name = c.in_ok-copy.field-0; place = place; full = full; after = c.number_of-after.result };
       is_claimed = refl;
