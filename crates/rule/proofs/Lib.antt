@@ -1,3 +1,4 @@
+pub mod Answering
 pub mod ClassLists
 pub mod Serving
 pub mod Truncated

@@ -77,9 +77,10 @@ fn agrees_at(
     ensures { IsTrue result ↔ (slice_get (names_of after.now) place
         ≡ slice_get (changed (names_of class.now) claimed.now.name claimed.now.place) place) }
 {
+    let size = table.size(after);
     match name_after(claimed, table, class, place) {
         Some(name) => is_at(table, after, place, name),
-        None => place >= table.size(after),
+        None => place >= size,
     }
 }
 

@@ -1,5 +1,7 @@
 //! The texts of rules.
-ghost use Rattle.std.specs.Prelude.{◌≡◌, ◌++◌, OnErr, OnOk, encode_utf8_all};
+ghost use Rattle.std.specs.Prelude.{◌≡◌, ◌++◌, IsTrue, OnErr, OnOk, encode_utf8_all};
+ghost use Rattle.std.specs.Char.{is_ascii};
+ghost use Rattle.std.specs.List.{list_all};
 ghost use Rattle.rule.specs.Texts.{rule_text};
 
 use crate::rule::Rule;
@@ -21,10 +23,17 @@ impl Rule {
     fn append_to(&self, out: &mut Vec<u8>) -> Result<(), AllocError>
         ensures { OnOk result (out.new.items ≡ out.old.items ++ encode_utf8_all (rule_text self.now)) }
     {
-        out.extend_from_slice(b"(if ")?;
+        push_word(out, "(if ")?;
         self.test().print_to(out)?;
-        out.push(b' ')?;
+        push_word(out, " ")?;
         self.body().tree().print_to(out)?;
-        out.extend_from_slice(b" update)")
+        push_word(out, " update)")
     }
+}
+
+fn push_word(out: &mut Vec<u8>, word: &str) -> Result<(), AllocError>
+    requires { IsTrue (list_all is_ascii word.now) }
+    ensures { OnOk result (out.new.items ≡ out.old.items ++ encode_utf8_all word.now) }
+{
+    out.extend_from_slice(word.as_bytes())
 }
