@@ -1,5 +1,5 @@
 -- Lists of names, name by name.
-use Rattle.std.proofs.Common.{◌≡◌, ◌≢◌, ◌↔◌, ℕ, zero, suc, ◌+◌, ◌<◌, ◌≤◌, nat_lt, nat_le, Bool, true, false, IsTrue, List, [], ◌∷◌, ◌++◌, length, get_or, slice_get, Option, None, Some, IfSome, IfNone, is_none, encode_utf8_all, refl, sym, ◌∙◌, ap, subst, arith}
+use Rattle.std.proofs.Common.{◌≡◌, ◌≢◌, ◌↔◌, ℕ, zero, suc, ◌+◌, ◌<◌, ◌≤◌, nat_lt, nat_le, Bool, true, false, IsTrue, List, [], ◌∷◌, ◌++◌, length, get_or, slice_get, Option, None, Some, IfSome, IfNone, is_some, not, encode_utf8_all, refl, sym, ◌∙◌, ap, subst, arith}
 use Rattle.std.specs.List.{All, remove}
 use Rattle.std.specs.Str.{IsUtf8, bytes_eq, chars}
 use Rattle.std.specs.Cmp.Lexicographic.{bytes_decides}
@@ -95,13 +95,17 @@ placed_at names name text place p b is same both =
 no_place : (names : List (List ℕ)) (name : List ℕ) (p : ℕ) → slice_get names p ≡ Some name → All (λ other. other ≢ name) names → ⊥
 no_place names name p there none = none p name (slice_get_within names p name there) (get_or_from_slice_get names p name name there)
 
-nowhere : (names : List (List ℕ)) (name : List ℕ) (found : Option ℕ) (b : Bool) → IfSome found (λ p. slice_get names p ≡ Some name) → IfNone found (All (λ other. other ≢ name) names) → b ≡ is_none found
+not_false : (b : Bool) → false ≡ not b → b ≡ true
+not_false true e = refl
+not_false false e = cc
+
+nowhere : (names : List (List ℕ)) (name : List ℕ) (found : Option ℕ) (b : Bool) → IfSome found (λ p. slice_get names p ≡ Some name) → IfNone found (All (λ other. other ≢ name) names) → is_some found ≡ not b
     → (IsTrue b ↔ IsPlaced names name None)
-nowhere names name None b some none e = (λ yes. none, λ all. e)
-nowhere names name (Some p) b some none e = (λ yes. (let no : true ≡ false = sym yes ∙ e in cc), λ all. absurd (no_place names name p some all))
+nowhere names name None b some none e = (λ yes. none, λ all. not_false b e)
+nowhere names name (Some p) b some none e = (λ yes. (let no : true ≡ false = e ∙ ap not yes in cc), λ all. absurd (no_place names name p some all))
 
 pub placed_nowhere : (names : List (List ℕ)) (name text : List ℕ) (place found : Option ℕ) (b : Bool) → place ≡ None → text ≡ name
-    → IfSome found (λ p. slice_get names p ≡ Some text) → IfNone found (All (λ other. other ≢ text) names) → b ≡ is_none found → (IsTrue b ↔ IsPlaced names name place)
+    → IfSome found (λ p. slice_get names p ≡ Some text) → IfNone found (All (λ other. other ≢ text) names) → is_some found ≡ not b → (IsTrue b ↔ IsPlaced names name place)
 placed_nowhere names name text place found b is same some none e =
     subst (λ (k : Option ℕ). IsTrue b ↔ IsPlaced names name k) (sym is)
     (nowhere names name found b (subst (λ (n : List ℕ). IfSome found (λ p. slice_get names p ≡ Some n)) same some) (subst (λ (n : List ℕ). IfNone found (All (λ other. other ≢ n) names)) same none) e)

@@ -1,4 +1,3 @@
-pub mod Answering
 pub mod ClassLists
 pub mod Serving
 pub mod Truncated
