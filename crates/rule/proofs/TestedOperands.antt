@@ -1,7 +1,8 @@
 -- Operations of tests: the metaobjects of their operands, made one after the other.
-use Rattle.std.proofs.Common.{◌≡◌, ◌≢◌, ◌⊎◌, ℕ, zero, suc, Bool, true, false, IsTrue, List, [], ◌∷◌, ◌++◌, length, slice_get, Option, None, Some, IfSome, inl, inr, refl, sym, ◌∙◌, ap, subst, arith, length-append}
+use Rattle.std.proofs.Common.{◌≡◌, ◌⊎◌, ℕ, zero, suc, ◌+◌, ◌<◌, Bool, true, List, [], ◌∷◌, ◌++◌, length, take, get_or, slice_get, Option, None, Some, IfSome, inl, inr, refl, sym, ◌∙◌, ap, subst, arith, length-append, length-take}
 use Rattle.std.specs.List.{list_all}
 use Rattle.std.proofs.lemmas.Bool.{and_parts}
+use Rattle.std.proofs.lemmas.List.{take_more}
 use Rattle.std.proofs.lemmas.Option.{slice_get_within}
 use Rattle.dyn_value.specs.declared.value.Value.{Value}
 use Rattle.expando_class.specs.declared.class.ClassRef.{ClassRef}
@@ -14,7 +15,7 @@ use Rattle.standard_binders.specs.declared.binder.Binder.{Binder}
 use Rattle.standard_binders.specs.Binders.{operand_count_of}
 use Rattle.standard_binders.specs.Functions.{Functions}
 use Rattle.meta_object.specs.declared.meta.MetaObject.{MetaObject}
-use Rattle.meta_object.specs.Metas.{CanBind, IsLendable, IsMetaOf, has_key, is_callable}
+use Rattle.meta_object.specs.Metas.{CanBind, IsMetaOf, has_key, is_callable}
 use Rattle.meta_object.specs.Operands.{AreMetasOf, IsLentFor, lent_at}
 use Rattle.meta_object.proofs.OperandMetas.{can_bind}
 
@@ -24,10 +25,7 @@ grown_got [] x b (suc n) e = absurd (cc)
 grown_got (c ∷ bs) x b zero e = inl e
 grown_got (c ∷ bs) x b (suc n) e = elim (grown_got bs x b n e) [ inl h ↦ inl h | inr h ↦ inr (omega arith, h.1) ]
 
-pub no_metas : (class : Option ClassRef) (metas : List MetaObject) → metas ≡ [] → AreMetasOf [] class metas
-no_metas class metas none = subst (AreMetasOf [] class) (sym none) (record { count = refl; each = λ i m v e f. cc })
-
-pub metas_push : (operands : List Value) (class : Option ClassRef) (metas : List MetaObject) (v : Value) (m : MetaObject) → AreMetasOf operands class metas
+metas_push : (operands : List Value) (class : Option ClassRef) (metas : List MetaObject) (v : Value) (m : MetaObject) → AreMetasOf operands class metas
     → IsMetaOf (length operands) v (lent_at (length operands) class) m → AreMetasOf (operands ++ v ∷ []) class (metas ++ m ∷ [])
 metas_push operands class metas v m are is = record {
   count = omega (arith, length-append operands (v ∷ []), length-append metas (m ∷ []), are.count);
@@ -45,19 +43,19 @@ metas_push operands class metas v m are is = record {
   ];
 }
 
-pub lendable_at : (n : ℕ) (class : Option ClassRef) (operands : List Value) (v : Value) → ((w : Value) → slice_get operands 0 ≡ Some w → IsLendable class w) → slice_get operands n ≡ Some v → IsLendable (lent_at n class) v
-lendable_at zero class operands v given at = given v at
-lendable_at (suc n) class operands v given at = tt
-
-lent_none : (n : ℕ) (class : Option ClassRef) → n ≢ 0 → lent_at n class ≡ None
-lent_none zero class other = absurd (other refl)
-lent_none (suc n) class other = refl
-
-pub lent_other : (n : ℕ) (class : Option ClassRef) → n ≢ 0 → None ≡ lent_at n class
-lent_other n class other = sym (lent_none n class other)
+-- one operand more
+pub one_more : (operands : List Value) (class : Option ClassRef) (metas new : List MetaObject) (n : ℕ) (v : Value) (m : MetaObject) (lent : Option ClassRef) → n < length operands → v ≡ get_or operands n v
+    → AreMetasOf (take n operands) class metas → new ≡ metas ++ m ∷ [] → lent ≡ lent_at n class → IsMetaOf n v lent m → AreMetasOf (take (n + 1) operands) class new
+one_more operands class metas new n v m lent below at are pushed same is =
+    let front = take n operands in
+    let long : length front ≡ n = let taken = length-take n operands in omega arith in
+    let last : IsMetaOf (length front) v (lent_at (length front) class) m =
+    subst (λ (k : ℕ). IsMetaOf k v (lent_at k class) m) (sym long) (subst (λ (l : Option ClassRef). IsMetaOf n v l m) same is) in
+    subst (λ (values : List Value). AreMetasOf values class new) (ap (λ (x : Value). front ++ x ∷ []) at ∙ sym (take_more operands n v below))
+    (subst (AreMetasOf (front ++ v ∷ []) class) (sym pushed) (metas_push front class metas v m are last))
 
 -- each of the operands passes a test that all pass
-pub each_passes : (test : Value → Bool) (operands : List Value) (i : ℕ) (v : Value) → list_all test operands ≡ true → slice_get operands i ≡ Some v → test v ≡ true
+each_passes : (test : Value → Bool) (operands : List Value) (i : ℕ) (v : Value) → list_all test operands ≡ true → slice_get operands i ≡ Some v → test v ≡ true
 each_passes test [] i v all at = cc
 each_passes test (w ∷ ws) zero v all at = let same : w ≡ v = cc in subst (λ (x : Value). test x ≡ true) same (and_parts (test w) (list_all test ws) all).0
 each_passes test (w ∷ ws) (suc i) v all at = each_passes test ws i v (and_parts (test w) (list_all test ws) all).1 at

@@ -1,4 +1,4 @@
-use super::binding::bound;
+use super::binding::{arguments, bound};
 use super::operations::{binder, operands, rule_for};
 use super::{class_of, functions};
 use crate::{Adopted, Binds, Claimed, Rule, claim_holds};
@@ -169,8 +169,7 @@ fn claims_by_their_own_table(rt: HostRuntime) -> Result<(), Fail> {
             table: &table,
             pass: &mut pass,
         };
-        let arguments = on.len() as u32 - 1;
-        let binder = binder(alloc, word, name, arguments)?;
+        let binder = binder(alloc, word, name, arguments(on))?;
         let operands = operands(alloc, on)?;
         let rule = rule_for(
             &rt, alloc, &language, &mut binds, &mut cx, &class, &binder, &operands,
