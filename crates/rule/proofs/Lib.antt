@@ -1,3 +1,4 @@
 pub mod ClassLists
 pub mod Serving
+pub mod TestedOperands
 pub mod Truncated

@@ -1,3 +1,5 @@
+ghost use Rattle.expando_class.specs.Pass.{IsPassOf};
+
 use super::operations::{binder, operands, rule_for};
 use super::{class_of, functions, text};
 use crate::{Binds, Rule};
@@ -40,7 +42,7 @@ pub(super) fn bound(
 }
 
 /// How many operands come after the target.
-fn arguments(on: &[&str]) -> u32 {
+pub(super) fn arguments(on: &[&str]) -> u32 {
     on.len().saturating_sub(1).min(16) as u32
 }
 
@@ -259,20 +261,34 @@ fn a_hundred_rules(rt: HostRuntime) -> Result<(), Fail> {
     let mut pass = table.pass(alloc)?;
     let language = language(alloc)?;
     let mut binds = Binds { count: 0 };
-    let class = table.root();
-    let operands = operands(alloc, &["object", "7"])?;
-    let mut cx = BindContext {
-        table: &table,
-        pass: &mut pass,
-    };
     for number in 0..100u32 {
-        let name = format!(in alloc; "m{number}")?;
-        let binder = binder(alloc, "set", name.as_str(), 1)?;
-        rule_for(
-            &rt, alloc, &language, &mut binds, &mut cx, &class, &binder, &operands,
-        )?;
+        bind_set(&rt, alloc, &language, &mut binds, &table, &mut pass, number)?;
     }
     assert_eq!(rt; binds.count, 100);
+    Ok(())
+}
+
+/// Binds a set of the member of this number, of an object without members.
+fn bind_set(
+    rt: &impl Wait,
+    alloc: Global,
+    language: &Script,
+    binds: &mut Binds,
+    table: &ClassTable,
+    pass: &mut ClassPass,
+    number: u32,
+) -> Result<(), Fail>
+    requires { IsPassOf table.now pass.old }
+    ensures { IsPassOf table.now pass.new }
+{
+    let name = format!(in alloc; "m{number}")?;
+    let binder = binder(alloc, "set", name.as_str(), 1)?;
+    let operands = operands(alloc, &["object", "7"])?;
+    let class = table.root();
+    let mut cx = BindContext { table, pass };
+    rule_for(
+        rt, alloc, language, binds, &mut cx, &class, &binder, &operands,
+    )?;
     Ok(())
 }
 

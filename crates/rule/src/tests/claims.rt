@@ -1,4 +1,4 @@
-use super::binding::bound;
+use super::binding::{arguments, bound};
 use super::operations::{binder, operands, rule_for};
 use super::{class_of, functions};
 use crate::{Adopted, Binds, Claimed, Rule, claim_holds};
@@ -11,19 +11,19 @@ use std::test::Fail;
 
 /// What is answered, in a word, and the numbers of the classes that are handed out.
 #[derive(Clone, Copy, Debug, PartialEq, Eq)]
-enum Told {
+enum Answer {
     Holds(Option<u128>, Option<u128>),
     Fails,
     Unseen,
 }
 
-fn told(claimed: Claimed) -> Told {
+fn told(claimed: Claimed) -> Answer {
     match claimed {
         Claimed::Holds(Adopted { class, after }) => {
-            Told::Holds(number(class.as_ref()), number(after.as_ref()))
+            Answer::Holds(number(class.as_ref()), number(after.as_ref()))
         }
-        Claimed::Fails => Told::Fails,
-        Claimed::Unseen => Told::Unseen,
+        Claimed::Fails => Answer::Fails,
+        Claimed::Unseen => Answer::Unseen,
     }
 }
 
@@ -32,112 +32,95 @@ fn number(class: Option<&ClassRef>) -> Option<u128> {
 }
 
 /// What is answered of the claim of a rule by another table, whose classes got these names in turn.
-fn told_by(rt: &impl Wait, alloc: Global, rule: &Rule, names: &[&str]) -> Result<Told, Fail> {
+fn told_by(rt: &impl Wait, alloc: Global, rule: &Rule, names: &[&str]) -> Result<Answer, Fail> {
     let table = ClassTable::new(alloc)?;
     let mut pass = table.pass(alloc)?;
     class_of(rt, &table, &mut pass, names)?;
     Ok(told(claim_holds(rule, &table, &functions(alloc, &[])?)))
 }
 
+/// A set of an absent name moves its object to the class after.
 #[test]
-fn claims_by_other_tables(rt: HostRuntime) -> Result<(), Fail> {
+fn sets_by_other_tables(rt: HostRuntime) -> Result<(), Fail> {
     let alloc = rt.alloc();
-    let set_of_none: [(&[&str], Told); 4] = [
-        (&["x"], Told::Holds(Some(0), Some(1))),
-        (&["x", "y"], Told::Holds(Some(0), Some(1))),
-        (&["y"], Told::Fails),
-        (&[], Told::Unseen),
+    let rule = bound(&rt, alloc, &[], "set", "x", &["object", "7"])?;
+    let cases: [(&[&str], Answer); 4] = [
+        (&["x"], Answer::Holds(Some(0), Some(1))),
+        (&["x", "y"], Answer::Holds(Some(0), Some(1))),
+        (&["y"], Answer::Fails),
+        (&[], Answer::Unseen),
     ];
-    told_as(
-        &rt,
-        alloc,
-        &bound(&rt, alloc, &[], "set", "x", &["object", "7"])?,
-        &set_of_none,
-    )?;
-    let get_of_one: [(&[&str], Told); 4] = [
-        (&["x"], Told::Holds(Some(1), None)),
-        (&["x", "y"], Told::Holds(Some(1), None)),
-        (&["y"], Told::Fails),
-        (&[], Told::Unseen),
-    ];
-    told_as(
-        &rt,
-        alloc,
-        &bound(&rt, alloc, &["x"], "get", "x", &["object"])?,
-        &get_of_one,
-    )?;
-    let get_of_absent: [(&[&str], Told); 3] = [
-        (&[], Told::Holds(Some(0), None)),
-        (&["x"], Told::Holds(Some(0), None)),
-        (&["y"], Told::Holds(Some(0), None)),
-    ];
-    told_as(
-        &rt,
-        alloc,
-        &bound(&rt, alloc, &[], "get", "x", &["object"])?,
-        &get_of_absent,
-    )?;
-    let set_of_new: [(&[&str], Told); 6] = [
-        (&["y", "x"], Told::Holds(Some(1), Some(2))),
-        (&["z", "x"], Told::Holds(Some(1), Some(2))),
-        (&["y", "z"], Told::Fails),
-        (&["x", "y"], Told::Fails),
-        (&["x"], Told::Fails),
-        (&["y"], Told::Unseen),
-    ];
-    told_as(
-        &rt,
-        alloc,
-        &bound(&rt, alloc, &["y"], "set", "x", &["object", "7"])?,
-        &set_of_new,
-    )?;
-    let delete_of_last: [(&[&str], Told); 4] = [
-        (&["x", "y"], Told::Holds(Some(2), Some(1))),
-        (&["y", "x"], Told::Fails),
-        (&["z", "y"], Told::Holds(Some(2), Some(1))),
-        (&["x"], Told::Unseen),
-    ];
-    told_as(
-        &rt,
-        alloc,
-        &bound(&rt, alloc, &["x", "y"], "delete", "y", &["object"])?,
-        &delete_of_last,
-    )?;
-    let delete_of_first: [(&[&str], Told); 3] = [
-        (&["x", "y", "z"], Told::Fails),
-        (&["x", "y"], Told::Unseen),
-        (&["y", "x"], Told::Fails),
-    ];
-    told_as(
-        &rt,
-        alloc,
-        &bound(&rt, alloc, &["x", "y"], "delete", "x", &["object"])?,
-        &delete_of_first,
-    )?;
-    let addition: [(&[&str], Told); 2] = [
-        (&[], Told::Holds(None, None)),
-        (&["x"], Told::Holds(None, None)),
-    ];
-    told_as(
-        &rt,
-        alloc,
-        &bound(&rt, alloc, &[], "add", "", &["7", "7"])?,
-        &addition,
-    )
+    for (names, want) in cases {
+        assert!(rt; told_by(&rt, alloc, &rule, names)? == want);
+    }
+    Ok(())
 }
 
-/// Each table answers as wanted.
-fn told_as<R: Wait>(
-    rt: &R,
-    alloc: Global,
-    rule: &Rule,
-    cases: &[(&[&str], Told)],
-) -> Result<(), Fail> {
+#[test]
+fn sets_beside_a_name_by_other_tables(rt: HostRuntime) -> Result<(), Fail> {
+    let alloc = rt.alloc();
+    let rule = bound(&rt, alloc, &["y"], "set", "x", &["object", "7"])?;
+    let cases: [(&[&str], Answer); 6] = [
+        (&["y", "x"], Answer::Holds(Some(1), Some(2))),
+        (&["z", "x"], Answer::Holds(Some(1), Some(2))),
+        (&["y", "z"], Answer::Fails),
+        (&["x", "y"], Answer::Fails),
+        (&["x"], Answer::Fails),
+        (&["y"], Answer::Unseen),
+    ];
     for (names, want) in cases {
-        let told = told_by(rt, alloc, rule, names)?;
-        if told != *want {
-            return Err(Fail::new("another answer"));
-        }
+        assert!(rt; told_by(&rt, alloc, &rule, names)? == want);
+    }
+    Ok(())
+}
+
+#[test]
+fn gets_by_other_tables(rt: HostRuntime) -> Result<(), Fail> {
+    let alloc = rt.alloc();
+    let rule = bound(&rt, alloc, &["x"], "get", "x", &["object"])?;
+    let cases: [(&[&str], Answer); 4] = [
+        (&["x"], Answer::Holds(Some(1), None)),
+        (&["x", "y"], Answer::Holds(Some(1), None)),
+        (&["y"], Answer::Fails),
+        (&[], Answer::Unseen),
+    ];
+    for (names, want) in cases {
+        assert!(rt; told_by(&rt, alloc, &rule, names)? == want);
+    }
+    Ok(())
+}
+
+#[test]
+fn deletes_by_other_tables(rt: HostRuntime) -> Result<(), Fail> {
+    let alloc = rt.alloc();
+    let cases: [(&str, &[&str], Answer); 7] = [
+        ("y", &["x", "y"], Answer::Holds(Some(2), Some(1))),
+        ("y", &["z", "y"], Answer::Holds(Some(2), Some(1))),
+        ("y", &["y", "x"], Answer::Fails),
+        ("y", &["x"], Answer::Unseen),
+        ("x", &["x", "y", "z"], Answer::Fails),
+        ("x", &["x", "y"], Answer::Unseen),
+        ("x", &["y", "x"], Answer::Fails),
+    ];
+    for (name, names, want) in cases {
+        let rule = bound(&rt, alloc, &["x", "y"], "delete", name, &["object"])?;
+        assert!(rt; told_by(&rt, alloc, &rule, names)? == want);
+    }
+    Ok(())
+}
+
+/// What claims nothing of a class that may be unseen holds by every table.
+#[test]
+fn claims_that_no_table_contradicts(rt: HostRuntime) -> Result<(), Fail> {
+    let alloc = rt.alloc();
+    let cases: [(&str, &[&str], Answer); 2] = [
+        ("get", &["object"], Answer::Holds(Some(0), None)),
+        ("add", &["7", "7"], Answer::Holds(None, None)),
+    ];
+    for (word, on, want) in cases {
+        let rule = bound(&rt, alloc, &[], word, "x", on)?;
+        assert!(rt; told_by(&rt, alloc, &rule, &[])? == want);
+        assert!(rt; told_by(&rt, alloc, &rule, &["x"])? == want);
     }
     Ok(())
 }
@@ -146,34 +129,34 @@ fn told_as<R: Wait>(
 #[test]
 fn claims_by_their_own_table(rt: HostRuntime) -> Result<(), Fail> {
     let alloc = rt.alloc();
-    let cases: [(&[&str], &str, &str, &[&str], Told); 4] = [
+    let cases: [(&[&str], &str, &str, &[&str], Answer); 4] = [
         (
             &[],
             "set",
             "x",
             &["object", "7"],
-            Told::Holds(Some(0), Some(1)),
+            Answer::Holds(Some(0), Some(1)),
         ),
         (
             &["x", "y"],
             "delete",
             "x",
             &["object"],
-            Told::Holds(Some(2), Some(3)),
+            Answer::Holds(Some(2), Some(3)),
         ),
         (
             &["x", "y"],
             "get at",
             "",
             &["object", "y"],
-            Told::Holds(Some(2), None),
+            Answer::Holds(Some(2), None),
         ),
         (
             &["x"],
             "call member",
             "x",
             &["object"],
-            Told::Holds(Some(1), None),
+            Answer::Holds(Some(1), None),
         ),
     ];
     for (names, word, name, on, want) in cases {
@@ -186,8 +169,7 @@ fn claims_by_their_own_table(rt: HostRuntime) -> Result<(), Fail> {
             table: &table,
             pass: &mut pass,
         };
-        let arguments = on.len() as u32 - 1;
-        let binder = binder(alloc, word, name, arguments)?;
+        let binder = binder(alloc, word, name, arguments(on))?;
         let operands = operands(alloc, on)?;
         let rule = rule_for(
             &rt, alloc, &language, &mut binds, &mut cx, &class, &binder, &operands,
@@ -203,15 +185,15 @@ fn claims_of_functions(rt: HostRuntime) -> Result<(), Fail> {
     let alloc = rt.alloc();
     let rule = bound(&rt, alloc, &[], "call", "", &["f", "7", "7"])?;
     let table = ClassTable::new(alloc)?;
-    let holds = Told::Holds(None, None);
-    let cases: [(&[&[&str]], Told); 7] = [
+    let holds = Answer::Holds(None, None);
+    let cases: [(&[&[&str]], Answer); 7] = [
         (&[&["a", "b"], &["a"]], holds),
         (&[&["a", "b"]], holds),
-        (&[&["a", "c"]], Told::Fails),
-        (&[&["b", "a"]], Told::Fails),
-        (&[&["a"]], Told::Fails),
-        (&[&["a", "b", "c"]], Told::Fails),
-        (&[], Told::Fails),
+        (&[&["a", "c"]], Answer::Fails),
+        (&[&["b", "a"]], Answer::Fails),
+        (&[&["a"]], Answer::Fails),
+        (&[&["a", "b", "c"]], Answer::Fails),
+        (&[], Answer::Fails),
     ];
     for (parameters, want) in cases {
         let funs = functions(alloc, parameters)?;

@@ -1,21 +1,23 @@
 //! Operations of short words, and the rules that are bound for them.
-ghost use Rattle.std.specs.Prelude.{◌≡◌, ◌↔◌, ◌<◌, ◌≤◌, ◌^◌, ℕ, IfOk, IfSome, IsTrue, Some, length, slice_get};
+ghost use Rattle.std.specs.Prelude.{◌≡◌, ◌≤◌, ◌&&◌, IfOk, IfSome, Some, length, slice_get};
 ghost use Rattle.std.specs.List.{list_all};
 ghost use Rattle.std.specs.Option.{option_copied};
 ghost use Rattle.dyn_value.specs.declared.value.Value.{Value as Operand};
+ghost use Rattle.dyn_value.specs.Outcomes.{at};
 ghost use Rattle.expando_class.specs.Class.{IsClassOf, number_of};
 ghost use Rattle.expando_class.specs.Pass.{IsPassOf};
 ghost use Rattle.meta_object.specs.Contexts.{KeepsContext};
 ghost use Rattle.meta_object.specs.Metas as metas;
 ghost use Rattle.meta_object.specs.Metas.{IsLendable};
 ghost use Rattle.meta_object.specs.Operands.{AreMetasOf, IsLentFor, lent_at};
+ghost use Rattle.rule_model.specs.Soundness.{is_object};
 ghost use Rattle.rule_model.specs.Tests.{known_value};
-ghost use Rattle.standard_binders.specs.Binders.{operand_count_of};
+ghost use Rattle.standard_binders.specs.Binders.{is_on_members};
 
 use super::text;
 use crate::{Binds, Rule, bind};
 use dyn_value::{BinOp, DynText, Kind, UnOp, Value};
-use expando_class::{ClassPass, ClassRef, ClassTable};
+use expando_class::ClassRef;
 use fallback::Script;
 use meta_object::{BindContext, MetaObject};
 use standard_binders::{Binder, CallInfo, FunTable};
@@ -164,10 +166,21 @@ fn is_callable(functions: &FunTable, value: &Value) -> bool
 fn lent<'c>(binder: &Binder, operands: &[Value], class: &'c ClassRef) -> Option<&'c ClassRef>
     ensures lent { IsLentFor binder.now operands.now (number_of class.now) (option_copied result) }
     ensures class { IfSome (option_copied result) (λ lent. lent ≡ class.now) }
+    ensures lendable { (v : Operand) → slice_get operands.now 0 ≡ Some v → IsLendable (option_copied result) v }
+{
+    if is_on_object(binder, operands) {
+        Some(class)
+    } else {
+        None
+    }
+}
+
+fn is_on_object(binder: &Binder, operands: &[Value]) -> bool
+    ensures { result ≡ (is_on_members binder.now && is_object (at operands.now 0)) }
 {
     match operands.first() {
-        Some(Value::Obj(_)) if binder.is_on_members() => Some(class),
-        _ => None,
+        Some(Value::Obj(_)) => binder.is_on_members(),
+        _ => false,
     }
 }
 
