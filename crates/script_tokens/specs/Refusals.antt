@@ -36,7 +36,8 @@ pub record IsTooDeepAt (ts : List Token) (number : ℕ) : Type 0 where
 abbrev pub IsRefused : List ℕ → LexRefused → Type 0
 IsRefused bytes (NotText place) = IsValidUpTo bytes place
 IsRefused bytes (BadToken place) = IsUtf8 bytes × IsBadAt (chars bytes) place
-IsRefused bytes (TooDeep number) = IsUtf8 bytes × ((ts : List Token) × (AreTokens (chars bytes) ts × IsTooDeepAt ts number))
+IsRefused bytes (TooDeep number) =
+    IsUtf8 bytes × ((ts : List Token) × (AreTokens (chars bytes) ts × IsTooDeepAt ts number))
 
 -- what a fault says of the bytes; want of memory says nothing
 abbrev pub Faults : List ℕ → LexFault → Type 0

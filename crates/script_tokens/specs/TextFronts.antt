@@ -24,7 +24,8 @@ BeginsDigits (c ∷ cs) = is_ascii_digit c ≡ true
 -- a character stands first that begins no blank, comment, text, word or integer
 abbrev pub BeginsOther : List ℕ → Type 0
 BeginsOther [] = ⊥
-BeginsOther (c ∷ cs) = (is_blank c ≡ false) × ((c == 35) ≡ false) × ((c == 34) ≡ false) × (starts_word c ≡ false) × (is_ascii_digit c ≡ false)
+BeginsOther (c ∷ cs) =
+    (is_blank c ≡ false) × ((c == 35) ≡ false) × ((c == 34) ≡ false) × (starts_word c ≡ false) × (is_ascii_digit c ≡ false)
 
 -- a quotation mark stands first
 abbrev pub BeginsQuoted : List ℕ → Type 0

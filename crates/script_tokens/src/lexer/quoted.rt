@@ -63,7 +63,8 @@ fn content_of(alloc: Global, inside: &[char]) -> Result<Content<'_>, AllocError>
 
 /// Puts the character at the end.
 fn add(characters: &mut String, character: char) -> Result<(), AllocError>
-    ensures { OnOk result (chars (string_bytes characters.new) ≡ chars (string_bytes characters.old) ++ character ∷ []) }
+    ensures { OnOk result
+        (chars (string_bytes characters.new) ≡ chars (string_bytes characters.old) ++ character ∷ []) }
 {
     characters.push(character)
 }

@@ -1,4 +1,4 @@
-use super::{LexFault, LexRefused, lex};
+use super::{LexFault, LexRefused, PlacedTokens, lex};
 use crate::token::Token;
 use std::alloc::{AllocError, Global};
 use std::test::Fail;
@@ -15,18 +15,32 @@ fn described(alloc: Global, token: &Token) -> Result<String, AllocError> {
     }
 }
 
-/// The tokens of bytes in words, each after the byte at which it begins, or the refusal.
+/// What [`lex`] answers for bytes that are no more than a script may have.
+fn short_lexed(alloc: Global, bytes: &[u8]) -> Result<PlacedTokens, LexFault> {
+    if bytes.len() > 1_048_576 {
+        return Err(LexFault::Memory);
+    }
+    lex(alloc, bytes)
+}
+
+/// The tokens in words, each after the byte at which it begins.
+fn placed_words(alloc: Global, placed: &PlacedTokens) -> Result<String, AllocError> {
+    let mut all = String::new(alloc);
+    for (number, token) in placed.tokens.iter().enumerate() {
+        let word = described(alloc, token)?;
+        let placed_word = match placed.places.get(number) {
+            Some(place) => format!(in alloc; " {place}:{word}")?,
+            None => format!(in alloc; " no place")?,
+        };
+        all.push_str(placed_word.as_str())?;
+    }
+    Ok(all)
+}
+
+/// The tokens of bytes in words, or the refusal.
 fn lexed(alloc: Global, bytes: &[u8]) -> Result<String, AllocError> {
-    match lex(alloc, bytes) {
-        Ok(placed) => {
-            let mut all = String::new(alloc);
-            for (token, place) in placed.tokens.iter().zip(placed.places.iter()) {
-                let word = described(alloc, token)?;
-                let placed_word = format!(in alloc; " {place}:{word}")?;
-                all.push_str(placed_word.as_str())?;
-            }
-            Ok(all)
-        }
+    match short_lexed(alloc, bytes) {
+        Ok(placed) => placed_words(alloc, &placed),
         Err(LexFault::Refused(LexRefused::NotText(place))) => format!(in alloc; "NotText {place}"),
         Err(LexFault::Refused(LexRefused::BadToken(place))) => {
             format!(in alloc; "BadToken {place}")
@@ -168,7 +182,7 @@ fn the_longest_text(rt: HostRuntime) -> Result<(), Fail> {
     ];
     for (part, count, want) in rows {
         let text = quoted_times(rt.alloc(), part, count)?;
-        let got = match lex(rt.alloc(), text.as_str().as_bytes()) {
+        let got = match short_lexed(rt.alloc(), text.as_str().as_bytes()) {
             Ok(placed) => placed.tokens.len() == 1,
             Err(LexFault::Refused(LexRefused::BadToken(0))) => false,
             _ => return Err(Fail::from(AllocError)),
