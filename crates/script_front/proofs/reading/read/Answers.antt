@@ -7,7 +7,7 @@ use Rattle.script_front.proofs.reading.read.Goals as goal
 
 pub returns-in_err-tokens-clause-refused : goal.returns-in_err-tokens-clause-refused
 returns-in_err-tokens-clause-refused c = λ at s is.
-    c.in_err-tokens.ensures.refused (ap Err (passed_on c.from_residual-in_err-tokens.result c.in_err-tokens.field-0.0 _ c.from_residual-in_err-tokens.ensures.1 at))
+    c.in_err-tokens.ensures.refused (ap Err (passed_on c.from_residual.result c.in_err-tokens.field-0.0 _ c.from_residual.ensures.1 at))
     _ (has_tokens c.args.bytes.now s is)
 
 pub returns-in_err-script-clause-refused : goal.returns-in_err-script-clause-refused
