@@ -1,8 +1,7 @@
 -- Bytes that are refused are no script.
-use Rattle.std.proofs.Common.{◌≡◌, ℕ, List, refl, sym, subst, Result}
+use Rattle.std.proofs.Common.{◌≡◌, ℕ, List, refl, Result}
 use Rattle.std.specs.Result.{IsErrAnd, IsErrOf}
 use Rattle.std.proofs.lemmas.Result.{err_from_is_err_and}
-use Rattle.script_tokens.specs.declared.token.Token.{Token}
 use Rattle.script_tokens.specs.Lexemes.{places_from}
 use Rattle.script_front.specs.declared.tree.Script.{Script}
 use Rattle.script_front.specs.Script.{HasTokens, IsScript}

@@ -1,6 +1,6 @@
 -- The text between quotation marks at the front of a text.
-use Rattle.std.proofs.Common.{◌≡◌, ◌≢◌, ◌⊎◌, ⊎_elim, ℕ, suc, ◌+◌, ◌-◌, ◌<◌, ◌≤◌, true, List, [], ◌∷◌, ◌++◌, length, get_or, take, drop, refl, sym, ◌∙◌, ap, subst, append_assoc, append-nil, length-append, arith}
-use Rattle.std.specs.Prelude.{Some, encode_utf8_all, string_bytes, IsUtf8}
+use Rattle.std.proofs.Common.{◌≡◌, ◌≢◌, ℕ, ◌+◌, ◌-◌, ◌<◌, ◌≤◌, true, List, [], ◌∷◌, ◌++◌, length, drop, refl, sym, ◌∙◌, ap, subst, append_assoc, append-nil, length-append, arith}
+use Rattle.std.specs.Prelude.{Some, string_bytes, IsUtf8}
 use Rattle.std.specs.List.{flat_map, list_all}
 use Rattle.std.specs.Str.{chars}
 use Rattle.std.proofs.Math.Seq.{drop-append_seam}
@@ -15,7 +15,7 @@ use Rattle.script_tokens.specs.declared.token.Token.TheVariants.{Name, Int, Text
 use Rattle.script_tokens.specs.Lexemes.{stands_in_text, byte_count, IsLexeme, Longest, Means, Piece, piece_text, Stands, AreOf, BeginsNoToken}
 use Rattle.script_tokens.specs.Lexemes.IsLexeme.{OfWord, OfDigits, OfText, OfSymbol}
 use Rattle.script_tokens.specs.Lexemes.Piece.{Blank, Comment, Lexeme}
-use Rattle.script_tokens.specs.TextFronts.{BeginsQuoted, BeginsNoCharacter, IsContent, IsFront}
+use Rattle.script_tokens.specs.TextFronts.{BeginsQuoted, IsContent, IsFront}
 use Rattle.script_tokens.proofs.ByteCounts.{byte_count-chars}
 use Rattle.script_tokens.proofs.Escapes.{ReadOn, quoted_begins, reads_on}
 use Rattle.script_tokens.proofs.FirstCharacters.{kind_of, first_kind, blank_kind, comment_kind, words_kind, digits_kind, symbol_kind}

@@ -1,5 +1,5 @@
 -- Bytes have tokens, or are refused in one way.
-use Rattle.std.proofs.Common.{◌≡◌, ℕ, ◌<◌, List, length, refl, sym, ◌∙◌, ap, subst, arith}
+use Rattle.std.proofs.Common.{◌≡◌, ℕ, List, length, sym, ◌∙◌, ap, subst, arith}
 use Rattle.std.specs.Prelude.{IsUtf8}
 use Rattle.std.specs.Str.{IsValidUpTo, chars}
 use Rattle.std.proofs.lemmas.List.{take_all}

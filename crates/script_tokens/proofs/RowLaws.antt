@@ -1,7 +1,7 @@
 -- A text is one row of pieces, up to where nothing more can be taken.
 use Rattle.std.proofs.Common.{◌≡◌, ℕ, List, [], ◌∷◌, ◌++◌, refl, sym, ◌∙◌, ap, subst, append_assoc, append-nil}
 use Rattle.script_tokens.specs.declared.token.Token.{Token}
-use Rattle.script_tokens.specs.Lexemes.{Piece, piece_text, row_text, byte_count, Stands, IsRow, AreOf, AreTokens, BeginsNoToken}
+use Rattle.script_tokens.specs.Lexemes.{Piece, piece_text, row_text, byte_count, Stands, IsRow, AreOf, AreTokens}
 use Rattle.script_tokens.specs.Lexemes.Piece.{Blank, Comment, Lexeme}
 use Rattle.script_tokens.specs.Refusals.{IsBadAt}
 use Rattle.script_tokens.proofs.FrontPieces.{front_same, piece_begins}

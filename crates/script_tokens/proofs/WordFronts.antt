@@ -6,9 +6,9 @@ use Rattle.std.proofs.lemmas.Bool.{cases_lt}
 use Rattle.std.proofs.lemmas.List.{get_or_read, take_all}
 use Rattle.std.specs.List.{sum_by}
 use Rattle.std.specs.Char.{len_utf8}
-use Rattle.std.proofs.Math.Utf8.{encode, encodes}
+use Rattle.std.proofs.Math.Utf8.{encode}
 use Rattle.std.proofs.lemmas.Str.{length-encode, chars-encodes, encode_same, len_utf8_bounds}
-use Rattle.std.proofs.lemmas.List.Sums.{sum_by_more_le, sum_by-cons}
+use Rattle.std.proofs.lemmas.List.Sums.{sum_by_more_le}
 use Rattle.script_tokens.specs.declared.token.Keyword.{Keyword}
 use Rattle.script_tokens.specs.declared.token.Keyword.TheVariants as word
 use Rattle.script_tokens.specs.declared.token.Token.TheVariants.{Name, Int, Text, Word, Mark}
