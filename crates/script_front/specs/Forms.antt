@@ -2,7 +2,7 @@
 use Rattle.std.specs.Prelude.{◌≡◌, ◌⊎◌, List, [], ◌∷◌, ◌++◌, pos, codes}
 use Rattle.std.proofs.Common.{inl, inr}
 use Rattle.script_tokens.specs.declared.token.Token.{Token}
-use Rattle.script_tokens.specs.declared.token.Token.TheVariants.{Name, Int, Word, Mark}
+use Rattle.script_tokens.specs.declared.token.Token.TheVariants.{Name, Int, Text, Word, Mark}
 
 abbrev pub Tokens : Type 0
 Tokens = List Token
@@ -27,6 +27,7 @@ pub record Reads (F : Form) (ts : Tokens) (tree : F.Tree) (rest : Tokens) : Type
 abbrev pub IsPlain : Token → Type 0
 IsPlain (Name n) = n ≡ codes "a"
 IsPlain (Int n) = n ≡ pos 0
+IsPlain (Text t) = ⊥
 IsPlain (Word w) = Unit {0}
 IsPlain (Mark s) = Unit {0}
 

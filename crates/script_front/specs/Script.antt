@@ -8,7 +8,9 @@ use Rattle.script_front.specs.declared.tree.Stmt.{Stmt}
 use Rattle.script_front.specs.declared.tree.Stmt.TheVariants.{Let}
 use Rattle.script_front.specs.declared.tree.Task.{Task}
 use Rattle.script_front.specs.declared.tree.Script.{Script}
+use Rattle.script_tokens.specs.declared.token.Token.{Token}
 use Rattle.script_tokens.specs.Lexemes.{AreTokens}
+use Rattle.script_tokens.specs.Refusals.{AreTokensOf}
 use Rattle.script_front.specs.Names.{AreNamed}
 use Rattle.script_tokens.specs.Shallow.{IsShallow}
 use Rattle.script_front.specs.Sites.{site_binders}
@@ -31,6 +33,10 @@ pub record IsWithinLimits (script : Script) : Type 0 where
   pub locals : list_all has_few_locals script.tasks ≡ true
   pub sites : length (site_binders script) ≤ 4096
   pub binders : distinct_count is_same_binder (site_binders script) ≤ 1024
+
+-- these are the tokens of the bytes, wherever they begin
+abbrev pub HasTokens : List ℕ → List Token → Type 0
+HasTokens bytes ts = (places : List ℕ) × AreTokensOf bytes ts places
 
 -- the bytes are this script
 pub record IsScript (bytes : List ℕ) (script : Script) : Type 0 where

@@ -1,10 +1,8 @@
-ghost use Rattle.std.specs.Prelude.{◌≡◌, ◌≤◌, List, true, length, IfOk, IsErrOf, IsUtf8};
-ghost use Rattle.std.specs.Str.{chars};
+ghost use Rattle.std.specs.Prelude.{◌≡◌, ◌≤◌, List, true, length, IfOk, IsErrOf};
 ghost use Rattle.script_tokens.specs.declared.token.Token.{Token};
 ghost use Rattle.script_front.specs.declared.tree.Script.{Script};
-ghost use Rattle.script_tokens.specs.Lexemes.{AreTokens};
 ghost use Rattle.script_front.specs.Programs.{script_of};
-ghost use Rattle.script_front.specs.Script.{IsScript};
+ghost use Rattle.script_front.specs.Script.{HasTokens, IsScript};
 ghost use Rattle.script_front.specs.Spelling.{spell};
 ghost use Rattle.script_front.specs.Written.{is_written};
 
@@ -16,7 +14,7 @@ use crate::limits::MOST_BYTES;
 use crate::parser::parse;
 use crate::program::Program;
 use crate::tree::Script;
-use script_tokens::{Token, Unlexed, is_shallow, lex};
+use script_tokens::{LexFault, Token, bytes_have_one_list_of_tokens, lex, tokens_are_not_refused};
 use std::alloc::{AllocError, Global};
 use thiserror::Error;
 
@@ -61,39 +59,25 @@ pub fn read(alloc: Global, bytes: &[u8]) -> Result<Program, ReadFault>
     if bytes.len() > MOST_BYTES {
         return Err(NOT_BUILT);
     }
-    let characters = characters_of(alloc, bytes)?;
-    let tokens = tokens_of(alloc, characters.as_slice())?;
-    if !is_shallow(tokens.as_slice()) {
-        return Err(NOT_BUILT);
-    }
+    let tokens = tokens_of(alloc, bytes)?;
     let script = script_of_tokens(alloc, tokens.as_slice())?;
     Program::of(alloc, script)
 }
 
-/// The characters of the bytes; refused exactly where they are no UTF-8.
-fn characters_of(alloc: Global, bytes: &[u8]) -> Result<Vec<char>, ReadFault>
-    ensures text { IfOk result (λ _. IsUtf8 bytes.now) }
-    ensures characters { IfOk result (λ cs. cs.items ≡ chars bytes.now) }
-    ensures few { IfOk result (λ cs. length cs.items ≤ length bytes.now) }
-    ensures refused { IsErrOf result (ReadFault.Refused ScriptRefused.NotBuilt) → IsUtf8 bytes.now → ⊥ }
+/// The tokens of the bytes; refused exactly where they have none.
+fn tokens_of(alloc: Global, bytes: &[u8]) -> Result<Vec<Token>, ReadFault>
+    requires { length bytes.now ≤ 1048576 }
+    ensures tokens { IfOk result (λ ts. HasTokens bytes.now ts.items) }
+    ensures only { IfOk result (λ ts. (us : List Token) → HasTokens bytes.now us → us ≡ ts.items) }
+    ensures few { IfOk result (λ ts. length ts.items ≤ length bytes.now) }
+    ensures refused { IsErrOf result (ReadFault.Refused ScriptRefused.NotBuilt) → (ts : List Token) → HasTokens bytes.now ts → ⊥ }
 {
-    match str::from_utf8(bytes) {
-        Ok(text) => Ok(text.chars().collect(alloc)?),
-        Err(_) => Err(NOT_BUILT),
-    }
-}
-
-/// The tokens of the text; refused exactly where it has none.
-fn tokens_of(alloc: Global, text: &[char]) -> Result<Vec<Token>, ReadFault>
-    ensures tokens { IfOk result (λ ts. AreTokens text.now ts.items) }
-    ensures only { IfOk result (λ ts. (us : List Token) → AreTokens text.now us → us ≡ ts.items) }
-    ensures few { IfOk result (λ ts. length ts.items ≤ length text.now) }
-    ensures refused { IsErrOf result (ReadFault.Refused ScriptRefused.NotBuilt) → (ts : List Token) → AreTokens text.now ts → ⊥ }
-{
-    match lex(alloc, text) {
-        Ok(tokens) => Ok(tokens),
-        Err(Unlexed::Stop(_)) => Err(NOT_BUILT),
-        Err(Unlexed::Memory) => Err(ReadFault::Memory),
+    bytes_have_one_list_of_tokens();
+    tokens_are_not_refused();
+    match lex(alloc, bytes) {
+        Ok(placed) => Ok(placed.tokens),
+        Err(LexFault::Refused(_)) => Err(NOT_BUILT),
+        Err(LexFault::Memory) => Err(ReadFault::Memory),
     }
 }
 

@@ -1,4 +1,4 @@
--- What a character may begin: each of a blank, a comment, a word, an integer and a symbol is told by its first character.
+-- What a character may begin: each of a blank, a comment, a text, a word, an integer and a symbol is told by its first character.
 use Rattle.std.proofs.Common.{◌≡◌, ◌≢◌, ℕ, ◌<◌, true, false, cond, ◌||◌, List, [], ◌∷◌, refl, sym, ◌∙◌, ap, subst, arith}
 use Rattle.std.specs.Prelude.{◌==◌}
 use Rattle.std.proofs.lemmas.Bool.{eqb-true}
@@ -7,23 +7,25 @@ use Rattle.std.specs.Char.{is_ascii_digit, is_ascii_alphabetic}
 use Rattle.unicode_ident.specs.Ident.{is_xid_start, is_xid_continue}
 use Rattle.unicode_ident.proofs.Computing.{unicode_ident}
 use Rattle.unicode_ident.proofs.IdentLemmas.{is_xid_start-ascii, is_xid_start-is_xid_continue}
+use Rattle.dyn_value.specs.Texts.{quoted_text}
 use Rattle.script_tokens.specs.declared.token.Symbol.{Symbol}
 use Rattle.script_tokens.specs.declared.token.Symbol.TheVariants as mark
 use Rattle.script_tokens.specs.Words.{symbol_text}
 use Rattle.script_tokens.specs.Lexemes.{is_blank, starts_word, IsWord, IsDigits, IsLexeme}
-use Rattle.script_tokens.specs.Lexemes.IsLexeme.{OfWord, OfDigits, OfSymbol}
+use Rattle.script_tokens.specs.Lexemes.IsLexeme.{OfWord, OfDigits, OfText, OfSymbol}
 
 pub data Kind : Type 0 where
   Ends : Kind
   Blanks : Kind
   Comments : Kind
+  Texts : Kind
   Words : Kind
   Integers : Kind
   Others : Kind
 
 -- the kind of piece that the character begins
 abbrev pub kind_of : ℕ → Kind
-kind_of c = cond (is_blank c) Blanks (cond (c == 35) Comments (cond (starts_word c) Words (cond (is_ascii_digit c) Integers Others)))
+kind_of c = cond (is_blank c) Blanks (cond (c == 35) Comments (cond (c == 34) Texts (cond (starts_word c) Words (cond (is_ascii_digit c) Integers Others))))
 
 -- the kind of piece that the characters begin
 abbrev pub first_kind : List ℕ → Kind
@@ -52,6 +54,9 @@ high_is_no_blank c high = grind (arith, nat_tests)
 high_is_no_comment : (c : ℕ) → 35 < c → (c == 35) ≡ false
 high_is_no_comment c high = grind (arith, nat_tests)
 
+high_is_no_quote : (c : ℕ) → 35 < c → (c == 34) ≡ false
+high_is_no_quote c high = grind (arith, nat_tests)
+
 word_is_high : (c : ℕ) → starts_word c ≡ true → 57 < c
 word_is_high c starts = grind (arith, low_starts_none)
 
@@ -64,15 +69,15 @@ comment_kind = refl
 pub word_kind : (c : ℕ) → starts_word c ≡ true → kind_of c ≡ Words
 word_kind c starts =
     let high = word_is_high c starts in
-    rw (high_is_no_blank c (omega arith), high_is_no_comment c (omega arith), starts)
+    rw (high_is_no_blank c (omega arith), high_is_no_comment c (omega arith), high_is_no_quote c (omega arith), starts)
 
 pub digit_kind : (c : ℕ) → is_ascii_digit c ≡ true → kind_of c ≡ Integers
 digit_kind c digit =
     let is = digit_is c digit in
-    rw (high_is_no_blank c (omega arith), high_is_no_comment c (omega arith), low_starts_none c (omega arith), digit)
+    rw (high_is_no_blank c (omega arith), high_is_no_comment c (omega arith), high_is_no_quote c (omega arith), low_starts_none c (omega arith), digit)
 
-pub other_kind : (c : ℕ) → is_blank c ≡ false → (c == 35) ≡ false → starts_word c ≡ false → is_ascii_digit c ≡ false → kind_of c ≡ Others
-other_kind c blank comment word digit = rw (blank, comment, word, digit)
+pub other_kind : (c : ℕ) → is_blank c ≡ false → (c == 35) ≡ false → (c == 34) ≡ false → starts_word c ≡ false → is_ascii_digit c ≡ false → kind_of c ≡ Others
+other_kind c blank comment quote word digit = rw (blank, comment, quote, word, digit)
 
 pub symbol_kind : (s : Symbol) → first_kind (symbol_text s) ≡ Others
 unfolding unicode_ident
@@ -110,6 +115,9 @@ pub digits_kind : (cs : List ℕ) → IsDigits cs → first_kind cs ≡ Integers
 digits_kind [] d = absurd d
 digits_kind (c ∷ cs) d = digit_kind c d.0
 
+pub quoted_kind : (cs text : List ℕ) → cs ≡ quoted_text text → first_kind cs ≡ Texts
+quoted_kind cs text is = ap first_kind is
+
 -- something stands there that begins with no blank and no number sign
 pub record BeginsLexeme (cs : List ℕ) : Type 0 where
   pub ends : first_kind cs ≢ Ends
@@ -119,6 +127,7 @@ pub record BeginsLexeme (cs : List ℕ) : Type 0 where
 pub begins_lexeme : (cs : List ℕ) → IsLexeme cs → BeginsLexeme cs
 begins_lexeme cs (OfWord w) = let k = words_kind cs w in record { ends = λ e. cc; blanks = λ b. cc; comments = λ b. cc }
 begins_lexeme cs (OfDigits d) = let k = digits_kind cs d in record { ends = λ e. cc; blanks = λ b. cc; comments = λ b. cc }
+begins_lexeme cs (OfText text is) = let k = quoted_kind cs text is.0 in record { ends = λ e. cc; blanks = λ b. cc; comments = λ b. cc }
 begins_lexeme cs (OfSymbol s is) =
     let k = ap first_kind is ∙ symbol_kind s in record { ends = λ e. cc; blanks = λ b. cc; comments = λ b. cc }
 

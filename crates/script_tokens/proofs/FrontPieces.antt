@@ -48,7 +48,7 @@ comments_same (c ∷ cs) (d ∷ ds) a b e n end m fin =
     (cc, rec.1)
 
 -- the piece's first character, before any rest
-kind_before : (cs a : List ℕ) → first_kind cs ≢ Ends → first_kind (cs ++ a) ≡ first_kind cs
+pub kind_before : (cs a : List ℕ) → first_kind cs ≢ Ends → first_kind (cs ++ a) ≡ first_kind cs
 kind_before [] a some = absurd (some refl)
 kind_before (c ∷ cs) a some = refl
 

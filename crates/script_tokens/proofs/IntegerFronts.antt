@@ -16,7 +16,7 @@ use Rattle.std.proofs.lemmas.List.{get_or_read}
 use Rattle.std.proofs.lemmas.Int.Digits.{digits_value_more}
 use Rattle.std.proofs.lemmas.Bool.{and_parts, cases_lt}
 use Rattle.std.proofs.lemmas.Bool.Decides.{nat_tests}
-use Rattle.script_tokens.specs.declared.token.Token.TheVariants.{Name, Int, Word, Mark}
+use Rattle.script_tokens.specs.declared.token.Token.TheVariants.{Name, Int, Text, Word, Mark}
 use Rattle.script_tokens.specs.Lexemes.{IsDigits, Means}
 use Rattle.script_tokens.specs.TextFronts.{MeansNothing}
 use Rattle.script_tokens.proofs.FirstCharacters.{digits_kind}
@@ -53,6 +53,7 @@ nothing_else : (ds : List ℕ) → IsDigits ds → ((n : ℕ) → ds ≡ decimal
 nothing_else ds digits none (Int z) m = none m.0 m.1.0 m.1.1
 nothing_else ds digits none (Name n) m = let k = digits_kind ds digits in let l = means_kind ds (Name n) m in cc
 nothing_else ds digits none (Word w) m = let k = digits_kind ds digits in let l = means_kind ds (Word w) m in cc
+nothing_else ds digits none (Text t) m = let k = digits_kind ds digits in let l = means_kind ds (Text t) m in cc
 nothing_else ds digits none (Mark s) m = let k = digits_kind ds digits in let l = means_kind ds (Mark s) m in cc
 
 -- a number that is too great is no token

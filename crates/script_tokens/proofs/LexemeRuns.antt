@@ -7,9 +7,9 @@ use Rattle.std.proofs.lemmas.List.Folds.{list_all-append}
 use Rattle.std.proofs.lemmas.List.Sums.{prefix_len-le-length}
 use Rattle.unicode_ident.specs.Ident.{is_xid_continue}
 use Rattle.script_tokens.specs.Lexemes.{IsWord, IsDigits, IsLexeme, Longest}
-use Rattle.script_tokens.specs.Lexemes.IsLexeme.{OfWord, OfDigits, OfSymbol}
+use Rattle.script_tokens.specs.Lexemes.IsLexeme.{OfWord, OfDigits, OfText, OfSymbol}
 use Rattle.script_tokens.specs.TextFronts.{BeginsWord, BeginsDigits}
-use Rattle.script_tokens.proofs.FirstCharacters.{first_kind, words_kind, digits_kind, symbol_kind, word_continues}
+use Rattle.script_tokens.proofs.FirstCharacters.{first_kind, words_kind, digits_kind, quoted_kind, symbol_kind, word_continues}
 
 -- a run of characters that pass stops here
 abbrev pub StopsAt : (ℕ → Bool) → List ℕ → Type 0
@@ -52,6 +52,7 @@ word_longest (c ∷ cs) rest word stop =
     = λ more after is lexeme. elim lexeme as (λ _. more ≡ []) [
       | OfWord w ↦ stopped is_xid_continue cs more rest after w.1 stop is
       | OfDigits d ↦ let other = digits_kind (c ∷ (cs ++ more)) d in cc
+      | OfText text q ↦ let other = quoted_kind (c ∷ (cs ++ more)) text q.0 in cc
       | OfSymbol s e ↦ let other = ap first_kind e ∙ symbol_kind s in cc
     ] in
     record { lexeme = OfWord word; longest = longest }
@@ -64,6 +65,7 @@ digits_longest (c ∷ cs) rest digits stop =
     = λ more after is lexeme. elim lexeme as (λ _. more ≡ []) [
       | OfWord w ↦ let other = words_kind (c ∷ (cs ++ more)) w in cc
       | OfDigits d ↦ stopped is_ascii_digit cs more rest after d.1 stop is
+      | OfText text q ↦ let other = quoted_kind (c ∷ (cs ++ more)) text q.0 in cc
       | OfSymbol s e ↦ let other = ap first_kind e ∙ symbol_kind s in cc
     ] in
     record { lexeme = OfDigits digits; longest = longest }

@@ -1,8 +1,14 @@
+mod ByteCounts
+mod Depths
+mod Escapes
 mod FirstCharacters
 mod FrontPieces
 mod IntegerFronts
 mod LexemeRuns
 mod PieceRows
+mod QuotedFronts
+mod RefusalLaws
+mod RowLaws
 mod SymbolFronts
 mod TextFronts
 mod TokenMeanings

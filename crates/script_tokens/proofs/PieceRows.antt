@@ -1,30 +1,35 @@
--- The row of pieces that a text is: it grows at its end, and there is one for a text.
-use Rattle.std.proofs.Common.{◌≡◌, ℕ, ◌+◌, ◌≤◌, List, [], ◌∷◌, ◌++◌, length, drop, refl, sym, ◌∙◌, ap, subst, append_assoc, append-nil, length-append, length-drop, arith, Option, None, Some}
+-- The row of pieces that is taken from a text: it grows at its end.
+use Rattle.std.proofs.Common.{◌≡◌, ℕ, ◌+◌, ◌≤◌, List, [], ◌∷◌, ◌++◌, length, take, drop, refl, sym, ◌∙◌, ap, subst, append_assoc, append-nil, length-append, length-drop, arith, Option, None, Some}
+use Rattle.std.proofs.Math.Seq.{take-append_seam}
 use Rattle.std.proofs.lemmas.List.{drop-drop, drop_all}
 use Rattle.std.proofs.lemmas.Grind.{flat_map-append}
 use Rattle.script_tokens.specs.declared.token.Token.{Token}
-use Rattle.script_tokens.specs.Lexemes.{Piece, piece_text, row_text, Stands, IsRow, AreOf, AreTokens, BeginsNoToken, LexesTo}
+use Rattle.script_tokens.specs.Lexemes.{Piece, piece_text, row_text, byte_count, places_from, Stands, IsRow, AreOf, AreTokensAt, BeginsNoToken}
 use Rattle.script_tokens.specs.Lexemes.Piece.{Blank, Comment, Lexeme}
 use Rattle.script_tokens.specs.declared.lexer.front.Front.{Front}
-use Rattle.script_tokens.specs.TextFronts.{tokens_of, IsFront}
-use Rattle.script_tokens.proofs.FrontPieces.{front_same, piece_begins}
-use Rattle.script_tokens.proofs.TokenMeanings.{means_same}
+use Rattle.script_tokens.specs.Refusals.{IsBadAt}
+use Rattle.script_tokens.specs.TextFronts.{tokens_of, places_of, IsFront}
+use Rattle.script_tokens.proofs.ByteCounts.{byte_count-append, byte_count-take}
 
--- the text is a row of pieces up to this rest, and they mean the tokens taken
-pub record IsTaken (text rest : List ℕ) (taken : List Token) : Type 0 where
+-- The text is a row of pieces up to this rest. They mean the tokens taken, which begin at these places; the rest
+-- begins at the byte `end`.
+pub record IsTaken (text rest : List ℕ) (taken : List Token) (places : List ℕ) (end : ℕ) : Type 0 where
   pub row : List Piece
   pub whole : text ≡ row_text row ++ rest
   pub stands : IsRow row rest
   pub tokens : AreOf row taken
+  pub begin : places ≡ places_from 0 row
+  pub reached : end ≡ byte_count (row_text row)
 
-pub nothing_taken : (text : List ℕ) → IsTaken text text []
-nothing_taken text = record { row = []; whole = refl; stands = tt; tokens = refl }
+pub nothing_taken : (text : List ℕ) → IsTaken text text [] [] 0
+nothing_taken text = record { row = []; whole = refl; stands = tt; tokens = refl; begin = refl; reached = refl }
+
+row_text-push : (row : List Piece) (p : Piece) → row_text (row ++ p ∷ []) ≡ row_text row ++ piece_text p
+row_text-push row p = flat_map-append piece_text row (p ∷ []) ∙ ap (λ x. row_text row ++ x) (append-nil (piece_text p))
 
 row_text_push : (row : List Piece) (p : Piece) (from rest : List ℕ) → from ≡ piece_text p ++ rest → row_text row ++ from ≡ row_text (row ++ p ∷ []) ++ rest
 row_text_push row p from rest is =
-    let longer : row_text (row ++ p ∷ []) ≡ row_text row ++ piece_text p
-    = flat_map-append piece_text row (p ∷ []) ∙ ap (λ x. row_text row ++ x) (append-nil (piece_text p)) in
-    ap (λ x. row_text row ++ x) is ∙ sym (append_assoc (row_text row) (piece_text p) rest) ∙ ap (λ x. x ++ rest) (sym longer)
+    ap (λ x. row_text row ++ x) is ∙ sym (append_assoc (row_text row) (piece_text p) rest) ∙ ap (λ x. x ++ rest) (sym (row_text-push row p))
 
 row_push : (row : List Piece) (p : Piece) (from rest : List ℕ) → IsRow row from → from ≡ piece_text p ++ rest → Stands p rest → IsRow (row ++ p ∷ []) rest
 row_push [] p from rest stands is last = (last, tt)
@@ -38,105 +43,96 @@ of_append (Comment body ∷ ps) qs ts us of more = of_append ps qs ts us of more
 of_append (Lexeme cs ∷ ps) qs [] us of more = absurd of
 of_append (Lexeme cs ∷ ps) qs (t ∷ ts) us of more = (of.0, of_append ps qs ts us of.1 more)
 
+further : (at : ℕ) (q : Piece) (row : List Piece) → at + byte_count (piece_text q) + byte_count (row_text row) ≡ at + byte_count (row_text (q ∷ row))
+further at q row = omega (arith, byte_count-append (piece_text q) (row_text row))
+
+places_push : (at : ℕ) (row : List Piece) (p : Piece) → places_from at (row ++ p ∷ []) ≡ places_from at row ++ places_from (at + byte_count (row_text row)) (p ∷ [])
+places_push at [] p = let here : at ≡ at + byte_count [] = omega arith in ap (λ n. places_from n (p ∷ [])) here
+places_push at (Blank c ∷ row) p =
+    places_push (at + byte_count (piece_text (Blank c))) row p
+    ∙ ap (λ n. places_from (at + byte_count (piece_text (Blank c))) row ++ places_from n (p ∷ [])) (further at (Blank c) row)
+places_push at (Comment body ∷ row) p =
+    places_push (at + byte_count (piece_text (Comment body))) row p
+    ∙ ap (λ n. places_from (at + byte_count (piece_text (Comment body))) row ++ places_from n (p ∷ [])) (further at (Comment body) row)
+places_push at (Lexeme cs ∷ row) p =
+    ap (λ ns. at ∷ ns) (places_push (at + byte_count cs) row p
+    ∙ ap (λ n. places_from (at + byte_count cs) row ++ places_from n (p ∷ [])) (further at (Lexeme cs) row))
+
+from_zero : (n : ℕ) → n ≡ 0 + n
+from_zero n = omega arith
+
 -- one more piece is taken
-pub piece_taken : (text from rest : List ℕ) (before tokens : List Token) (p : Piece)
-    → IsTaken text from before → from ≡ piece_text p ++ rest → Stands p rest → AreOf (p ∷ []) tokens → IsTaken text rest (before ++ tokens)
-piece_taken text from rest before tokens p t is stands of = record {
+piece_taken : (text from rest : List ℕ) (before tokens : List Token) (places : List ℕ) (end : ℕ) (p : Piece)
+    → IsTaken text from before places end → from ≡ piece_text p ++ rest → Stands p rest → AreOf (p ∷ []) tokens
+    → IsTaken text rest (before ++ tokens) (places ++ places_from end (p ∷ [])) (end + byte_count (piece_text p))
+piece_taken text from rest before tokens places end p t is stands of = record {
   row = t.row ++ p ∷ [];
   whole = t.whole ∙ row_text_push t.row p from rest is;
   stands = row_push t.row p from rest t.stands is stands;
   tokens = of_append t.row (p ∷ []) before tokens t.tokens of;
+  begin = ap (λ ns. ns ++ places_from end (p ∷ [])) t.begin ∙ ap (λ n. places_from 0 t.row ++ places_from n (p ∷ [])) (t.reached ∙ from_zero (byte_count (row_text t.row))) ∙ sym (places_push 0 t.row p);
+  reached = ap (λ n. n + byte_count (piece_text p)) t.reached ∙ sym (byte_count-append (row_text t.row) (piece_text p)) ∙ ap byte_count (sym (row_text-push t.row p));
 }
 
 -- all is taken
-pub all_taken : (text : List ℕ) (tokens : List Token) → IsTaken text [] tokens → AreTokens text tokens
-all_taken text tokens t = record { row = t.row; text = t.whole ∙ append-nil (row_text t.row); stands = t.stands; tokens = t.tokens }
-
--- the tokens of a text that begins with a row go on from its end
-pub record TokensGoOn (rest : List ℕ) (taken all : List Token) : Type 0 where
-  pub others : List Token
-  pub all_is : all ≡ taken ++ others
-  pub tokens : AreTokens rest others
-
-after_first : (p : Piece) (ps qs : List Piece) (rest : List ℕ) (ts us : List Token) → AreOf (p ∷ ps) ts → AreOf (p ∷ qs) us
-    → ((vs ws : List Token) → AreOf ps vs → AreOf qs ws → TokensGoOn rest vs ws) → TokensGoOn rest ts us
-after_first (Blank c) ps qs rest ts us a b go = go ts us a b
-after_first (Comment body) ps qs rest ts us a b go = go ts us a b
-after_first (Lexeme cs) ps qs rest [] us a b go = absurd a
-after_first (Lexeme cs) ps qs rest (t ∷ ts) [] a b go = absurd b
-after_first (Lexeme cs) ps qs rest (t ∷ ts) (u ∷ us) a b go =
-    let g = go ts us a.1 b.1 in
-    let same = means_same cs t u a.0 b.0 in
-    let is = g.all_is in
-    record { others = g.others; all_is = cc; tokens = g.tokens }
-
-nothing_before : (a b c : List ℕ) → a ++ b ++ c ≡ [] → a ≡ []
-nothing_before [] b c e = refl
-nothing_before (x ∷ a) b c e = cc
-
-begun : (ps qs : List Piece) (rest : List ℕ) (ts us : List Token)
-    → IsRow ps rest → AreOf ps ts → row_text ps ++ rest ≡ row_text qs → IsRow qs [] → AreOf qs us → TokensGoOn rest ts us
-begun [] qs rest ts us stands of e row all = record {
-  others = us;
-  all_is = subst (λ vs. us ≡ vs ++ us) (sym of) refl;
-  tokens = record { row = qs; text = e; stands = row; tokens = all };
+pub all_taken : (text : List ℕ) (tokens : List Token) (places : List ℕ) (end : ℕ) → IsTaken text [] tokens places end → AreTokensAt text tokens places
+all_taken text tokens places end t = record {
+  tokens = record { row = t.row; text = t.whole ∙ append-nil (row_text t.row); stands = t.stands; tokens = t.tokens };
+  begin = t.begin;
 }
-begun (p ∷ ps) [] rest ts us stands of e row all =
-    absurd (piece_begins p (row_text ps ++ rest) stands.0 (nothing_before (piece_text p) (row_text ps) rest e))
-begun (p ∷ ps) (q ∷ qs) rest ts us stands of e row all =
-    let meet : piece_text p ++ (row_text ps ++ rest) ≡ piece_text q ++ (row_text qs ++ [])
-    = sym (append_assoc (piece_text p) (row_text ps) rest) ∙ e ∙ ap (λ x. piece_text q ++ x) (sym (append-nil (row_text qs))) in
-    let same = front_same p q (row_text ps ++ rest) (row_text qs ++ []) meet stands.0 row.0 in
-    after_first p ps qs rest ts us of (subst (λ r. AreOf (r ∷ qs) us) (sym same.0) all)
-    (λ vs ws a b. begun ps qs rest vs ws stands.1 a (same.1 ∙ append-nil (row_text qs)) row.1 b)
 
--- the tokens of a text go on from those that are taken
-pub taken_begins : (text rest : List ℕ) (taken all : List Token) → IsTaken text rest taken → AreTokens text all → TokensGoOn rest taken all
-taken_begins text rest taken all t a = begun t.row a.row rest taken all t.stands t.tokens (sym t.whole ∙ a.text) a.stands a.tokens
-
-no_tokens : (row : List Piece) (ts : List Token) → [] ≡ row_text row → IsRow row [] → AreOf row ts → ts ≡ []
-no_tokens [] ts text stands of = of
-no_tokens (p ∷ ps) ts text stands of =
-    absurd (piece_begins p (row_text ps ++ []) stands.0 (nothing_before (piece_text p) (row_text ps) [] (append-nil (row_text (p ∷ ps)) ∙ sym text)))
-
--- no other tokens are those of a text that is taken whole
-pub taken_only : (text : List ℕ) (taken all : List Token) → IsTaken text [] taken → AreTokens text all → all ≡ taken
-taken_only text taken all t a =
-    let g = taken_begins text [] taken all t a in
-    g.all_is ∙ ap (λ ts. taken ++ ts) (no_tokens g.tokens.row g.others g.tokens.text g.tokens.stands g.tokens.tokens) ∙ append-nil taken
-
-first_means : (p : Piece) (ps : List Piece) (ts : List Token) → AreOf (p ∷ ps) ts → (us : List Token) × AreOf (p ∷ []) us
-first_means (Blank c) ps ts of = ([], refl)
-first_means (Comment body) ps ts of = ([], refl)
-first_means (Lexeme cs) ps [] of = absurd of
-first_means (Lexeme cs) ps (t ∷ ts) of = (t ∷ [], (of.0, refl))
-
-begins_none : (rest : List ℕ) (row : List Piece) (ts : List Token) → BeginsNoToken rest → rest ≡ row_text row → IsRow row [] → AreOf row ts → ⊥
-begins_none rest [] ts bad text stands of = bad.more text
-begins_none rest (p ∷ ps) ts bad text stands of =
-    let first = first_means p ps ts of in
-    bad.none p (row_text ps) first.0 text (subst (Stands p) (append-nil (row_text ps)) stands.0) first.1
-
--- where no token stands at the rest, the text has no tokens
-pub stops_at : (text rest : List ℕ) (taken : List Token) → IsTaken text rest taken → BeginsNoToken rest → LexesTo text rest
-stops_at text rest taken t bad = record {
+-- where no token stands at the rest, its first byte is bad
+pub bad_at : (text rest : List ℕ) (taken : List Token) (places : List ℕ) (end : ℕ) → IsTaken text rest taken places end → BeginsNoToken rest → IsBadAt text end
+bad_at text rest taken places end t bad = record {
   row = t.row;
   taken = taken;
+  rest = rest;
   text = t.whole;
   stands = t.stands;
   tokens = t.tokens;
+  begins = t.reached;
   bad = bad;
-  none = λ ts a. let g = taken_begins text rest taken ts t a in begins_none rest g.tokens.row g.others bad g.tokens.text g.tokens.stands g.tokens.tokens;
 }
 
+-- the bytes taken, and those of the rest
+pub taken_bytes : (text rest : List ℕ) (taken : List Token) (places : List ℕ) (end : ℕ) → IsTaken text rest taken places end → end + byte_count rest ≡ byte_count text
+taken_bytes text rest taken places end t = ap (λ n. n + byte_count rest) t.reached ∙ sym (byte_count-append (row_text t.row) rest) ∙ ap byte_count (sym t.whole)
+
+-- a part of the rest has no more bytes than the text after what is taken
+pub part_bytes : (text rest part : List ℕ) (at n : ℕ) (taken : List Token) (places : List ℕ) (end : ℕ)
+    → IsTaken text (drop at text) taken places end → rest ≡ drop at text → part ≡ take n rest → end + byte_count part ≤ byte_count text
+part_bytes text rest part at n taken places end t is first =
+    omega (arith, taken_bytes text (drop at text) taken places end t, ap byte_count first, ap byte_count is, byte_count-take n rest)
+
+piece_is : (front cs : List ℕ) (n : ℕ) → n ≤ length cs → cs ≡ front ++ drop n cs → front ≡ take n cs
+piece_is front cs n within is =
+    let size : length front ≡ n = omega (arith, ap length is, length-append front (drop n cs), length-drop n cs) in
+    sym (take-append_seam front (drop n cs)) ∙ ap (take (length front)) (sym is) ∙ ap (λ m. take m cs) size
+
+piece_places : (p : Piece) (t : Option Token) (at : ℕ) → AreOf (p ∷ []) (tokens_of t) → places_from at (p ∷ []) ≡ places_of t at
+piece_places (Blank c) None at of = refl
+piece_places (Blank c) (Some t) at of = cc
+piece_places (Comment body) None at of = refl
+piece_places (Comment body) (Some t) at of = cc
+piece_places (Lexeme cs) None at of = absurd of
+piece_places (Lexeme cs) (Some t) at of = refl
+
 -- what stands at the front of the rest is taken
-pub front_taken : (text rest : List ℕ) (at : ℕ) (before after : List Token) (f : Front) → rest ≡ drop at text → IsTaken text (drop at text) before
-    → IsFront rest f → after ≡ before ++ tokens_of f.token → IsTaken text (drop (at + f.length) text) after
-front_taken text rest at before after f is taken front kept =
+pub front_taken : (text rest part : List ℕ) (at : ℕ) (before after : List Token) (places begun : List ℕ) (end bytes : ℕ) (f : Front)
+    → rest ≡ drop at text → IsTaken text (drop at text) before places end → IsFront rest f → part ≡ take f.length rest → bytes ≡ byte_count part
+    → after ≡ before ++ tokens_of f.token → begun ≡ places ++ places_of f.token end → IsTaken text (drop (at + f.length) text) after begun (end + bytes)
+front_taken text rest part at before after places begun end bytes f is taken front first counted kept placed =
     let further : drop f.length rest ≡ drop (at + f.length) text = ap (drop f.length) is ∙ drop-drop f.length at text in
-    let whole = subst (λ r. IsTaken text r before) (sym is) taken in
-    subst (λ r. IsTaken text r after) further (subst (IsTaken text (drop f.length rest)) (sym kept)
-    (piece_taken text rest (drop f.length rest) before (tokens_of f.token) front.piece whole front.text front.stands front.tokens))
+    let whole = subst (λ r. IsTaken text r before places end) (sym is) taken in
+    let size : byte_count (piece_text front.piece) ≡ bytes
+    = ap byte_count (piece_is (piece_text front.piece) rest f.length front.within front.text ∙ sym first) ∙ sym counted in
+    let begins : places ++ places_from end (front.piece ∷ []) ≡ begun
+    = ap (λ ns. places ++ ns) (piece_places front.piece f.token end front.tokens) ∙ sym placed in
+    let next = piece_taken text rest (drop f.length rest) before (tokens_of f.token) places end front.piece whole front.text front.stands front.tokens in
+    subst (λ r. IsTaken text r after begun (end + bytes)) further
+    (subst (λ ts. IsTaken text (drop f.length rest) ts begun (end + bytes)) (sym kept)
+    (subst (λ ns. IsTaken text (drop f.length rest) (before ++ tokens_of f.token) ns (end + bytes)) begins
+    (subst (λ n. IsTaken text (drop f.length rest) (before ++ tokens_of f.token) (places ++ places_from end (front.piece ∷ [])) (end + n)) size next)))
 
 pub front_within : (text rest : List ℕ) (at : ℕ) (f : Front) → rest ≡ drop at text → IsFront rest f → at ≤ length text → at + f.length ≤ length text
 front_within text rest at f is front within =
@@ -153,5 +149,5 @@ front_few rest f old new at front grown few =
     omega (arith, ap length grown, length-append old (tokens_of f.token), token_alone f.token)
 
 -- at the end nothing is left
-pub taken_to_end : (text : List ℕ) (at : ℕ) (taken : List Token) → length text ≤ at → IsTaken text (drop at text) taken → IsTaken text [] taken
-taken_to_end text at taken end t = subst (λ r. IsTaken text r taken) (drop_all at text end) t
+pub taken_to_end : (text : List ℕ) (at : ℕ) (taken : List Token) (places : List ℕ) (end : ℕ) → length text ≤ at → IsTaken text (drop at text) taken places end → IsTaken text [] taken places end
+taken_to_end text at taken places end all t = subst (λ r. IsTaken text r taken places end) (drop_all at text all) t

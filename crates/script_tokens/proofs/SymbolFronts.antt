@@ -7,10 +7,10 @@ use Rattle.script_tokens.specs.declared.token.Token.{Token}
 use Rattle.script_tokens.specs.declared.token.Token.TheVariants.{Mark}
 use Rattle.script_tokens.specs.Words.{symbol_text}
 use Rattle.script_tokens.specs.Lexemes.{IsLexeme, Longest, Piece, piece_text, Stands, AreOf, BeginsNoToken}
-use Rattle.script_tokens.specs.Lexemes.IsLexeme.{OfWord, OfDigits, OfSymbol}
+use Rattle.script_tokens.specs.Lexemes.IsLexeme.{OfWord, OfDigits, OfText, OfSymbol}
 use Rattle.script_tokens.specs.Lexemes.Piece.{Blank, Comment, Lexeme}
 use Rattle.script_tokens.specs.TextFronts.{BeginsOther, BeginsPair, BeginsNoPair, IsFront}
-use Rattle.script_tokens.proofs.FirstCharacters.{kind_of, first_kind, blank_kind, words_kind, digits_kind, symbol_kind, other_kind}
+use Rattle.script_tokens.proofs.FirstCharacters.{kind_of, first_kind, blank_kind, words_kind, digits_kind, quoted_kind, symbol_kind, other_kind}
 use Rattle.script_tokens.proofs.FirstCharacters.Kind.{Others}
 use Rattle.script_tokens.proofs.TextFronts.{lexeme_front}
 
@@ -86,6 +86,7 @@ symbol_longest s c cs rest is longest =
     = λ more after e lexeme. elim lexeme as (λ _. more ≡ []) [
       | OfWord w ↦ let other = words_kind (c ∷ (cs ++ more)) w in cc
       | OfDigits d ↦ let other = digits_kind (c ∷ (cs ++ more)) d in cc
+      | OfText text q ↦ let other = quoted_kind (c ∷ (cs ++ more)) text q.0 in cc
       | OfSymbol t f ↦ longest t more after e f
     ] in
     record { lexeme = OfSymbol s is; longest = no_longer }
@@ -121,14 +122,16 @@ no_symbol [] x other is alone = absurd other
 no_symbol (c ∷ cs) x other is alone = record { more = λ e. cc; none = none }
   where
     kind : kind_of c ≡ Others
-    kind = other_kind c other.0 other.1 other.2 other.3
+    kind = other_kind c other.0 other.1 other.2 other.3 other.4
 
     lexeme_none : (ds after : List ℕ) → c ∷ cs ≡ ds ++ after → IsLexeme ds → ⊥
     lexeme_none [] after e (OfWord w) = w
     lexeme_none [] after e (OfDigits d) = d
+    lexeme_none [] after e (OfText text q) = let k = quoted_kind [] text q.0 in cc
     lexeme_none [] after e (OfSymbol s is) = let k = ap first_kind is ∙ symbol_kind s in cc
     lexeme_none (d ∷ ds) after e (OfWord w) = let first : c ≡ d = cc in let k = words_kind (d ∷ ds) w in let l = ap kind_of first in cc
     lexeme_none (d ∷ ds) after e (OfDigits g) = let first : c ≡ d = cc in let k = digits_kind (d ∷ ds) g in let l = ap kind_of first in cc
+    lexeme_none (d ∷ ds) after e (OfText text q) = let first : c ≡ d = cc in let k = quoted_kind (d ∷ ds) text q.0 in let l = ap kind_of first in cc
     lexeme_none (d ∷ ds) after e (OfSymbol s text) =
         let first : d ≡ c = cc in
         alone (short s) (short_text s ∙ ap (λ y. get_or y 0 0 ∷ []) (sym text) ∙ ap (λ y. y ∷ []) (first ∙ sym is))

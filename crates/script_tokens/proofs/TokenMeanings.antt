@@ -14,11 +14,12 @@ use Rattle.script_tokens.specs.declared.token.Keyword.TheVariants as word
 use Rattle.script_tokens.specs.declared.token.Symbol.{Symbol}
 use Rattle.script_tokens.specs.declared.token.Symbol.TheVariants as mark
 use Rattle.script_tokens.specs.declared.token.Token.{Token}
-use Rattle.script_tokens.specs.declared.token.Token.TheVariants.{Name, Int, Word, Mark}
+use Rattle.script_tokens.specs.declared.token.Token.TheVariants.{Name, Int, Text, Word, Mark}
 use Rattle.script_tokens.specs.Words.{keyword_text, symbol_text}
 use Rattle.script_tokens.specs.Lexemes.{IsWord, IsDigits, Means}
-use Rattle.script_tokens.proofs.FirstCharacters.{Kind, first_kind, words_kind, digits_kind, symbol_kind}
-use Rattle.script_tokens.proofs.FirstCharacters.Kind.{Words, Integers, Others}
+use Rattle.script_tokens.proofs.Escapes.{quoted_same}
+use Rattle.script_tokens.proofs.FirstCharacters.{Kind, first_kind, words_kind, digits_kind, quoted_kind, symbol_kind}
+use Rattle.script_tokens.proofs.FirstCharacters.Kind.{Texts, Words, Integers, Others}
 
 -- the keyword with this text; the last one where there is none
 keyword_at : List ℕ → Keyword
@@ -168,6 +169,7 @@ decimal_is_digits n small = let numeral = decimal_is_IsNumeral n small in digits
 abbrev pub token_kind : Token → Kind
 token_kind (Name n) = Words
 token_kind (Int z) = Integers
+token_kind (Text t) = Texts
 token_kind (Word w) = Words
 token_kind (Mark s) = Others
 
@@ -175,6 +177,7 @@ pub means_kind : (cs : List ℕ) (t : Token) → Means cs t → first_kind cs �
 means_kind cs (Name n) m = words_kind cs m.0
 means_kind cs (Word w) m = ap first_kind m ∙ words_kind (keyword_text w) (keyword_is_word w)
 means_kind cs (Int z) m = ap first_kind m.1.0 ∙ digits_kind (decimal m.0) (decimal_is_digits m.0 (omega (arith, m.1.1)))
+means_kind cs (Text t) m = quoted_kind cs t m.0.0
 means_kind cs (Mark s) m = ap first_kind m ∙ symbol_kind s
 
 pub means_same : (cs : List ℕ) (t u : Token) → Means cs t → Means cs u → t ≡ u
@@ -186,6 +189,7 @@ means_same cs (Int y) (Int z) h k =
     let same : h.0 ≡ k.0 = decimal_injective h.0 k.0 (omega (arith, h.1.1)) (omega (arith, k.1.1)) (sym h.1.0 ∙ k.1.0) in
     ap Int (h.1.2 ∙ ap pos same ∙ sym k.1.2)
 means_same cs (Mark s) (Mark t) h k = ap Mark (symbol_same s t (sym h ∙ k))
+means_same cs (Text t) (Text u) h k = ap Text (quoted_same t u (sym h.0.0 ∙ k.0.0))
 means_same cs (Name n) (Int z) h k = let a = means_kind cs (Name n) h in let b = means_kind cs (Int z) k in cc
 means_same cs (Name n) (Mark s) h k = let a = means_kind cs (Name n) h in let b = means_kind cs (Mark s) k in cc
 means_same cs (Word w) (Int z) h k = let a = means_kind cs (Word w) h in let b = means_kind cs (Int z) k in cc
@@ -196,3 +200,11 @@ means_same cs (Int z) (Mark s) h k = let a = means_kind cs (Int z) h in let b = 
 means_same cs (Mark s) (Name n) h k = let a = means_kind cs (Mark s) h in let b = means_kind cs (Name n) k in cc
 means_same cs (Mark s) (Word w) h k = let a = means_kind cs (Mark s) h in let b = means_kind cs (Word w) k in cc
 means_same cs (Mark s) (Int z) h k = let a = means_kind cs (Mark s) h in let b = means_kind cs (Int z) k in cc
+means_same cs (Text t) (Name n) h k = let a = means_kind cs (Text t) h in let b = means_kind cs (Name n) k in cc
+means_same cs (Name n) (Text t) h k = let a = means_kind cs (Name n) h in let b = means_kind cs (Text t) k in cc
+means_same cs (Text t) (Int z) h k = let a = means_kind cs (Text t) h in let b = means_kind cs (Int z) k in cc
+means_same cs (Int z) (Text t) h k = let a = means_kind cs (Int z) h in let b = means_kind cs (Text t) k in cc
+means_same cs (Text t) (Word w) h k = let a = means_kind cs (Text t) h in let b = means_kind cs (Word w) k in cc
+means_same cs (Word w) (Text t) h k = let a = means_kind cs (Word w) h in let b = means_kind cs (Text t) k in cc
+means_same cs (Text t) (Mark s) h k = let a = means_kind cs (Text t) h in let b = means_kind cs (Mark s) k in cc
+means_same cs (Mark s) (Text t) h k = let a = means_kind cs (Mark s) h in let b = means_kind cs (Text t) k in cc

@@ -6,22 +6,18 @@ use Rattle.std.proofs.lemmas.Bool.{cases_lt}
 use Rattle.std.proofs.lemmas.List.{get_or_read, take_all}
 use Rattle.std.specs.List.{sum_by}
 use Rattle.std.specs.Char.{len_utf8}
-use Rattle.std.proofs.Math.Utf8.{encode, encodes}
+use Rattle.std.proofs.Math.Utf8.{encode}
 use Rattle.std.proofs.lemmas.Str.{length-encode, chars-encodes, encode_same, len_utf8_bounds}
-use Rattle.std.proofs.lemmas.List.Sums.{sum_by_more_le, sum_by-cons}
+use Rattle.std.proofs.lemmas.List.Sums.{sum_by_more_le}
 use Rattle.script_tokens.specs.declared.token.Keyword.{Keyword}
 use Rattle.script_tokens.specs.declared.token.Keyword.TheVariants as word
-use Rattle.script_tokens.specs.declared.token.Token.TheVariants.{Name, Int, Word, Mark}
+use Rattle.script_tokens.specs.declared.token.Token.TheVariants.{Name, Int, Text, Word, Mark}
 use Rattle.script_tokens.specs.Words.{keyword_text}
 use Rattle.script_tokens.specs.Lexemes.{IsWord, Means}
 use Rattle.script_tokens.specs.TextFronts.{MeansNothing}
+use Rattle.script_tokens.proofs.ByteCounts.{byte_count-sum}
 use Rattle.script_tokens.proofs.FirstCharacters.{words_kind}
 use Rattle.script_tokens.proofs.TokenMeanings.{means_kind}
-
--- the bytes of characters are counted one by one
-pub length-encode_utf8_all : (cs : List ℕ) → length (encode_utf8_all cs) ≡ sum_by len_utf8 cs
-length-encode_utf8_all [] = refl
-length-encode_utf8_all (c ∷ cs) = omega (arith, length-append (encode c) (encode_utf8_all cs), length-encode c, length-encode_utf8_all cs, sum_by-cons len_utf8 c cs)
 
 keyword_utf8 : (w : Keyword) → encode_utf8_all (keyword_text w) ≡ keyword_text w
 unfolding encode
@@ -85,6 +81,7 @@ pub long_means_nothing : (cs : List ℕ) → IsWord cs → 64 < length (encode_u
 long_means_nothing cs is long (Name n) m = omega (arith, m.2)
 long_means_nothing cs is long (Word w) m = omega (arith, ap (λ x. length (encode_utf8_all x)) m, ap length (keyword_utf8 w), keyword_length w)
 long_means_nothing cs is long (Int z) m = let k = words_kind cs is in let l = means_kind cs (Int z) m in cc
+long_means_nothing cs is long (Text t) m = let k = words_kind cs is in let l = means_kind cs (Text t) m in cc
 long_means_nothing cs is long (Mark s) m = let k = words_kind cs is in let l = means_kind cs (Mark s) m in cc
 
 pub keyword_means : (cs bytes : List ℕ) (w : Keyword) → bytes ≡ encode_utf8_all cs → bytes ≡ keyword_text w → Means cs (Word w)
@@ -105,10 +102,10 @@ name_means cs bytes name is encoded utf8 other short same =
 pub long_by : (cs : List ℕ) (i b n x : ℕ) → i < length cs → x ≡ get_or cs i x → n ≡ len_utf8 x → b ≡ sum_by len_utf8 (take i cs) → 64 < b + n → 64 < length (encode_utf8_all cs)
 long_by cs i b n x within read bytes before long =
     let x_is : x ≡ get_or cs i 0 = get_or_read cs i x within read 0 in
-    omega (arith, ap len_utf8 x_is, length-encode_utf8_all cs, sum_by_more_le len_utf8 cs i 0 within)
+    omega (arith, ap len_utf8 x_is, byte_count-sum cs, sum_by_more_le len_utf8 cs i 0 within)
 
 pub short_by : (cs : List ℕ) (i b : ℕ) → length cs ≤ i → b ≡ sum_by len_utf8 (take i cs) → b ≤ 64 → length (encode_utf8_all cs) ≤ 64
-short_by cs i b end before short = omega (arith, length-encode_utf8_all cs, ap (sum_by len_utf8) (take_all i cs end))
+short_by cs i b end before short = omega (arith, byte_count-sum cs, ap (sum_by len_utf8) (take_all i cs end))
 
 pub long_unless_short : (n : ℕ) (b : Bool) → b ≡ false → (n ≤ 64 → b ≡ true) → 64 < n
 long_unless_short n b is short = ⊎_elim (λ long. long) (λ le. let t = short le in cc) (cases_lt 64 n)

@@ -1,10 +1,12 @@
-//! The tokens of the script language, and the texts that they stand in.
+//! The tokens of the script language: from bytes to tokens with their places, or the first cause why there are none.
 #![tactic(auto)]
 
+mod laws;
 mod lexer;
 mod shallow;
 mod token;
 
-pub use lexer::{Unlexed, lex};
-pub use shallow::{MOST_OPEN_BRACKETS, is_shallow};
+pub use laws::{bytes_have_one_list_of_tokens, bytes_have_one_refusal, tokens_are_not_refused};
+pub use lexer::{LexFault, LexRefused, PlacedTokens, lex};
+pub use shallow::MOST_OPEN_BRACKETS;
 pub use token::{Keyword, Symbol, Token};

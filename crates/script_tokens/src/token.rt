@@ -61,6 +61,8 @@ pub enum Token {
     Name(DynText),
     /// A number that is not negative.
     Int(i64),
+    /// What a text between quotation marks means.
+    Text(DynText),
     Word(Keyword),
     Mark(Symbol),
 }

@@ -52,6 +52,10 @@ fn places_of_names(rt: HostRuntime) -> Result<(), Fail> {
         ("task t { let s = 1; } shared s;", " refused"),
         ("task t { let u = 1; } task u { }", " refused"),
         ("task t { let a = 1; let a = 2; }", " refused"),
+        ("task t { print \"a\"; }", " refused"),
+        ("\"shared s;\"", " refused"),
+        ("shared s; # \"a", ""),
+        ("shared s; \"", " refused"),
     ];
     for (source, want) in rows {
         let got = places_of(rt.alloc(), source)?;

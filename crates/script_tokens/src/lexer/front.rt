@@ -4,6 +4,7 @@ ghost use Rattle.script_tokens.specs.Lexemes.{is_blank, starts_word, BeginsNoTok
 ghost use Rattle.script_tokens.specs.TextFronts.{IsFront};
 
 use super::integer::integer_front;
+use super::quoted::quoted_front;
 use super::symbol::symbol_front;
 use super::word::word_front;
 use crate::token::Token;
@@ -34,6 +35,8 @@ pub fn front_of(alloc: Global, text: &[char]) -> Result<Option<Front>, AllocErro
             length: comment_length(text),
             token: None,
         }))
+    } else if first == '"' {
+        quoted_front(alloc, text)
     } else if starts_word(first) {
         word_front(alloc, text)
     } else if first.is_ascii_digit() {

@@ -1,9 +1,0 @@
-use Rattle.std.proofs.Common.{◌≤◌, ◌-◌, length, drop}
-use Rattle.script_tokens.proofs.PieceRows.{IsTaken}
-use Rattle.script_tokens.proofs.lexer.lex.Given as goal
-
-abbrev pub invariant-loop-at : goal.invariant-loop-at
-invariant-loop-at l = record { within : l.at ≤ length l.text; taken : IsTaken l.text (drop l.at l.text) l.tokens.items; few : length l.tokens.items ≤ l.at }
-
-abbrev pub decreases-loop-at : goal.decreases-loop-at
-decreases-loop-at l = length l.text - l.at
