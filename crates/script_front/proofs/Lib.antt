@@ -19,6 +19,7 @@ mod PieceRows
 mod PlaceBounds
 mod Refusals
 mod Rules
+mod ShortNames
 mod StatementLaws
 mod StatementRules
 mod StatementSteps

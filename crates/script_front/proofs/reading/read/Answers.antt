@@ -4,6 +4,7 @@ use Rattle.script_front.specs.Names.{AreNamed}
 use Rattle.script_front.specs.Script.{IsWithinLimits}
 use Rattle.script_front.specs.Shallow.{IsShallow}
 use Rattle.script_front.proofs.Refusals.{passed_on, spelled, no_tokens}
+use Rattle.script_front.proofs.ShortNames.{short_names}
 use Rattle.script_front.proofs.reading.read.Goals as goal
 
 pub returns-in_err-tokens-clause-refused : goal.returns-in_err-tokens-clause-refused
@@ -27,3 +28,9 @@ returns-clause-refused c = λ at s is.
     let same = spelled c.args.bytes.now c.as_slice.result.now c.in_ok-tokens.tokens.items s (c.as_slice.ensures.value ∙ c.in_ok-characters.ensures.characters) c.in_ok-tokens.ensures.only is in
     let equal = c.in_ok-script.ensures.only s is.written (same ∙ sym c.as_slice-3.ensures.value) in
     c.of.ensures.refused at (subst AreNamed equal is.named) (subst IsWithinLimits equal is.limits)
+
+pub of-requires : goal.of-requires
+of-requires c = record {
+  short_names = short_names c.as_slice.result.now c.in_ok-tokens.tokens.items c.in_ok-script.script
+      c.in_ok-tokens.ensures.tokens (c.in_ok-script.ensures.spelled ∙ c.as_slice-3.ensures.value) c.in_ok-script.ensures.written;
+}
