@@ -4,6 +4,8 @@ pub mod Devices
 pub mod Edges
 pub mod Headline
 pub mod Lawful
-pub mod Recorded
+pub mod Bindings
+pub mod RowProps
+pub mod Rows
 pub mod Rendering
 pub mod TaskRuns

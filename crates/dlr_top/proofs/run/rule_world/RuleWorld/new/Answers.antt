@@ -1,17 +1,24 @@
 use Rattle.std.proofs.Common.{◌≡◌, ◌∙◌, ◌∷◌, ◌++◌, [], List, ℕ, length, sym, ap, refl, subst, arith}
 use Rattle.std.specs.List.{range_with_len}
 use Rattle.script_front.specs.Programs.{script_of}
-use Rattle.dlr_top.specs.Recorded.{Recorded}
-use Rattle.dlr_top.proofs.Worlds.{AreUntouched, untouched_kept, none_untouched, more_untouched}
-use Rattle.dlr_top.proofs.run.plain_world.PlainWorld.new.Goals as goal
+use Rattle.dlr_top.specs.Rows.{table_of, tag_of}
+use Rattle.dlr_top.proofs.Worlds.{none_new, one_more_new}
+use Rattle.dlr_top.proofs.run.rule_world.RuleWorld.new.Goals as goal
 
 pub loop-init : goal.loop-init
-loop-init c = subst (AreUntouched 0) (sym c.in_ok-objects.ensures.items) none_untouched
+loop-init c = none_new c.args.program.now c.in_ok-binding.binding.table c.in_ok-objects.objects.items c.in_ok-objects.ensures.items
 
 pub loop-preserved : goal.loop-preserved
 loop-preserved c =
-    more_untouched c.loop.counter c.loop.objects.items c.push.new.self.items c.loop.invariant
-    (c.in_ok-push.ensures.items ∙ ap (λ (r : Recorded). c.loop.objects.items ++ r ∷ []) c.new.ensures)
+    let tag = c.new.ensures.tag in
+    one_more_new c.args.program.now c.in_ok-binding.binding.table c.loop.counter c.loop.objects.items c.push.new.self.items c.new.result c.loop.invariant c.in_ok-push.ensures.items
+    (record {
+      binders = ap (λ t. t.binders.now) tag ∙ c.binders.ensures;
+      functions = ap (λ t. t.functions) tag;
+      limit = ap (λ t. t.limit) tag ∙ omega (arith, ap length c.shared.ensures.shared);
+      table = c.new.ensures.table ∙ c.table.ensures;
+    })
+    c.new.ensures.journal
 
 pub invariant_of-result : goal.invariant_of-result
 invariant_of-result c =
@@ -19,6 +26,6 @@ invariant_of-result c =
     let first : ℕ = length (script_of c.args.program.now).shared in
     record {
       all = omega (arith, c.loop.invariant.count_is, shared, c.loop-test.false, c.loop.auto.counter-end);
-      kept = ∣ untouched_kept c.args.program.now c.loop.counter c.loop.objects.items c.loop.invariant ∣₁;
-      numbers = subst (λ (ns : List ℕ). ns ≡ range_with_len first (length ns)) (sym c.new-2.ensures.items) refl;
+      alike = ∣ c.loop.invariant.rows_are ∣₁;
+      numbers = subst (λ (ns : List ℕ). ns ≡ range_with_len first (length ns)) (sym c.new-drawn.ensures.items) refl;
     }
