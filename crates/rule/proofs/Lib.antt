@@ -1,0 +1,3 @@
+pub mod ClassLists
+pub mod Serving
+pub mod Truncated
