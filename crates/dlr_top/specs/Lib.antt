@@ -1,3 +1,4 @@
+pub mod Bindings
 pub mod CallPlans
 pub mod Clean
 pub mod Commands
@@ -6,6 +7,7 @@ pub mod Edges
 pub mod Headline
 pub mod Lawful
 pub mod MemDevices
-pub mod Recorded
 pub mod Rendering
+pub mod RowProps
+pub mod Rows
 pub mod TaskRuns

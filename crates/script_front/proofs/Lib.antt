@@ -14,6 +14,7 @@ mod ParseOutcomes
 mod PlaceBounds
 mod Refusals
 mod Rules
+mod ShortNames
 mod StatementLaws
 mod StatementRules
 mod StatementSteps

@@ -1,8 +1,8 @@
 -- The sites of a script, and the numbers of their binders.
-use Rattle.std.specs.Prelude.{◌≡◌, ◌≢◌, ℕ, ◌+◌, max, Bool, true, false, ◌==◌, ◌&&◌, nat_le, List, [], ◌∷◌, ◌++◌, length, map, slice_get, Some}
+use Rattle.std.specs.Prelude.{◌≡◌, ◌≢◌, ℕ, ◌+◌, max, Bool, true, false, ◌==◌, ◌&&◌, nat_le, List, [], ◌∷◌, ◌++◌, length, map, slice_get, Some, encode_utf8_all}
 use Rattle.std.specs.List.{flat_map}
 use Rattle.standard_binders.specs.declared.binder.Binder.{Binder}
-use Rattle.standard_binders.specs.declared.binder.Binder.TheVariants.{GetMember, SetMember, DeleteMember, BinaryOperation}
+use Rattle.standard_binders.specs.declared.binder.Binder.TheVariants.{GetMember, SetMember, DeleteMember, InvokeMember, BinaryOperation}
 use Rattle.script_front.specs.declared.tree.Head.{Head}
 use Rattle.script_front.specs.declared.tree.Head.TheFolds.{fold-Expr, fold-Head}
 use Rattle.script_front.specs.declared.tree.Head.TheOpen.{Head-F, Expr-F}
@@ -50,6 +50,14 @@ task_sites t = block_sites t.body
 -- the binder of each site of a script
 abbrev pub site_binders : Script → List Binder
 site_binders s = flat_map task_sites s.tasks
+
+-- whether the name of a member that a binder carries has at most 64 bytes
+abbrev pub has_short_name : Binder → Bool
+has_short_name (GetMember name ignore_case) = nat_le (length (encode_utf8_all name)) 64
+has_short_name (SetMember name ignore_case) = nat_le (length (encode_utf8_all name)) 64
+has_short_name (DeleteMember name ignore_case) = nat_le (length (encode_utf8_all name)) 64
+has_short_name (InvokeMember name ignore_case info) = nat_le (length (encode_utf8_all name)) 64
+has_short_name _ = true
 
 -- whether the numbers come in the order of their first uses, from so many known ones on, up to so many in all
 abbrev pub is_in_first_order : ℕ → List ℕ → ℕ → Bool

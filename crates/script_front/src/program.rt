@@ -2,7 +2,7 @@ ghost use Rattle.std.specs.Prelude.{◌≡◌, ◌≤◌, true, map, length, Som
 ghost use Rattle.std.specs.List.{list_all};
 ghost use Rattle.script_front.specs.Names.{script_places};
 ghost use Rattle.script_front.specs.Script.{has_few_locals};
-ghost use Rattle.script_front.specs.Sites.{site_binders, IsNumbering};
+ghost use Rattle.script_front.specs.Sites.{site_binders, has_short_name, IsNumbering};
 
 use crate::limits::{MOST_BINDERS, MOST_SITES, has_few_declarations};
 use crate::names::named_places;
@@ -29,6 +29,7 @@ pub struct Program {
     pub(crate) places: Items<Place>,
     ghost numbering: { IsNumbering (site_binders script) sites binders },
     ghost places_are: { map Some places ≡ script_places script },
+    ghost short_names: { list_all has_short_name (site_binders script) ≡ true },
     ghost few_sites: { length (site_binders script) ≤ 4096 },
     ghost few_tasks: { length script.tasks ≤ 8 },
     ghost few_shared: { length script.shared ≤ 64 },
@@ -36,15 +37,16 @@ pub struct Program {
 }
 
 impl Program {
-    ghost use Rattle.std.specs.Prelude.{◌≡◌, ◌<◌, ◌≤◌, map, length, IfOk, OnOk, IsErrOf, Some, get_or, slice_get};
-    ghost use Rattle.std.specs.List.{All};
+    ghost use Rattle.std.specs.Prelude.{◌≡◌, ◌<◌, ◌≤◌, true, map, length, IfOk, OnOk, IsErrOf, Some, get_or, slice_get};
+    ghost use Rattle.std.specs.List.{All, list_all};
     ghost use Rattle.script_front.specs.Names.{AreNamed, IsPlaceWithin, script_places};
     ghost use Rattle.script_front.specs.Script.{IsWithinLimits};
-    ghost use Rattle.script_front.specs.Sites.{site_binders, IsNumbering};
+    ghost use Rattle.script_front.specs.Sites.{site_binders, has_short_name, IsNumbering};
     ghost use Rattle.script_front.specs.Programs.{script_of, sites_of, binders_of, places_of};
 
     /// The program of a script; refused exactly where a name breaks a rule or a limit is passed.
     pub(crate) fn of(alloc: Global, script: Script) -> Result<Program, ReadFault>
+        requires short_names { list_all has_short_name (site_binders script) ≡ true }
         ensures script { IfOk result (λ p. script_of p ≡ script) }
         ensures named { OnOk result (AreNamed script) }
         ensures limits { OnOk result (IsWithinLimits script) }
@@ -106,11 +108,12 @@ impl Program {
         self.binders.as_slice()
     }
 
-    /// The binder of a site.
+    /// The binder of a site. A name that it carries has at most 64 bytes.
     pub fn binder_of(&self, site: u32) -> &Binder
         requires { site < length (site_binders (script_of self.now)) }
         ensures binder { slice_get (site_binders (script_of self.now)) site ≡ Some result.now }
         ensures number { slice_get (binders_of self.now) (get_or (sites_of self.now) site 0) ≡ Some result.now }
+        ensures short_name { has_short_name result.now ≡ true }
     {
         let number = self.sites()[site as usize];
         &self.binders()[number as usize]

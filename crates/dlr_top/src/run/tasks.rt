@@ -1,11 +1,11 @@
 ghost use Rattle.std.specs.Prelude.{◌≡◌, ◌<◌, length, Some, IfOk};
 ghost use Rattle.script_front.specs.Programs.{script_of};
 ghost use Rattle.dlr_top.specs.Lawful.{IsLawful, IsSerial};
-ghost use Rattle.dlr_top.specs.Recorded.{journals_in};
+ghost use Rattle.dlr_top.specs.Rows.{journals_in};
 ghost use Rattle.dlr_top.specs.TaskRuns.{Ran};
 
 use crate::report::{Report, TaskEnd};
-use crate::run::plain_world::PlainWorld;
+use crate::run::rule_world::RuleWorld;
 use program_eval::{Printed, run_task};
 use script_front::Program;
 use sqlite_items::Items;
@@ -25,7 +25,7 @@ pub(crate) fn run_tasks<R: Wait>(
     ensures serial { IfOk result (λ r. IsSerial program.now r) }
 {
     let count = program.tasks().len() as u32;
-    let mut world = PlainWorld::new(alloc, program)?;
+    let mut world = RuleWorld::new(alloc, program)?;
     let mut tasks = Items::new(alloc);
     for task in 0..count {
         tasks.push(run_one(rt, alloc, program, task, &mut world)?)?;
@@ -40,7 +40,7 @@ fn run_one<R: Wait>(
     alloc: Global,
     program: &Program,
     task: u32,
-    world: &mut PlainWorld<'_>,
+    world: &mut RuleWorld<'_>,
 ) -> Result<TaskEnd, AllocError>
     requires task { task < length (script_of program.now).tasks }
     requires world { world.old.program.now ≡ program.now }

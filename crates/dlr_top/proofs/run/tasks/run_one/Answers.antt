@@ -6,7 +6,7 @@ use Rattle.script_front.specs.declared.program.Program.{Program}
 use Rattle.script_front.specs.Programs.{script_of, sites_of}
 use Rattle.dlr_top.specs.declared.report.TaskEnd.{TaskEnd}
 use Rattle.dlr_top.specs.Lawful.{limit_of}
-use Rattle.dlr_top.specs.Recorded.{journals_in}
+use Rattle.dlr_top.specs.Rows.{journals_in}
 use Rattle.dlr_top.specs.TaskRuns.{Ran}
 use Rattle.dlr_top.proofs.run.tasks.run_one.Goals as goal
 

@@ -5,9 +5,9 @@ use Rattle.script_front.specs.declared.program.Program.{Program}
 use Rattle.script_front.specs.Programs.{script_of, binders_of}
 use Rattle.dlr_top.specs.declared.report.TaskEnd.{TaskEnd}
 use Rattle.dlr_top.specs.Lawful.{limit_of}
-use Rattle.dlr_top.specs.Recorded.{AreKept, journals_in}
+use Rattle.dlr_top.specs.Rows.{AreRowsOf, journals_in}
 use Rattle.dlr_top.proofs.Runs.{AreRun, none_run, one_more_run, lawful_by, serial_by}
-use Rattle.dlr_top.proofs.Worlds.{kept_legal}
+use Rattle.dlr_top.proofs.Worlds.{rows_legal}
 use Rattle.dlr_top.proofs.run.tasks.run_tasks.Goals as goal
 
 pub loop-task-init : goal.loop-task-init
@@ -23,7 +23,7 @@ loop-task-preserved g c =
     let new = c.run_one.new.world in
     let same : new.program.now ≡ program = c.in_ok-run_one.ensures.world in
     let legal : (object : ℕ) → IsLegal (binders_of program) [] (journals_in new.objects.items object) =
-    kept_legal program new.objects.items (subst (λ (p : Program). ∥ AreKept p new.objects.items ∥₁) same new.kept) in
+    rows_legal program new.binding.table new.objects.items (subst (λ (p : Program). ∥ AreRowsOf p new.binding.table new.objects.items ∥₁) same new.alike) in
     let numbers = subst (λ (p : Program). new.drawn.items ≡ range_with_len (length (script_of p).shared) (length new.drawn.items)) same new.numbers in
     record {
       program = same;
@@ -40,7 +40,7 @@ returns-clause-lawful g c =
     let all : c.loop-task.task ≡ length (script_of program).tasks = omega (arith, c.loop-task-test.false, c.loop-task.auto.task-end, ap length c.tasks.ensures.tasks, c.tasks.ensures.few) in
     let run = subst (λ n. AreRun program n c.loop-task.tasks (journals_in world.objects.items) world.drawn.items) all c.loop-task.invariant.run in
     let legal : (object : ℕ) → IsLegal (binders_of program) [] (journals_in world.objects.items object) =
-    kept_legal program world.objects.items (subst (λ (p : Program). ∥ AreKept p world.objects.items ∥₁) same world.kept) in
+    rows_legal program world.binding.table world.objects.items (subst (λ (p : Program). ∥ AreRowsOf p world.binding.table world.objects.items ∥₁) same world.alike) in
     let numbers = subst (λ (p : Program). world.drawn.items ≡ range_with_len (length (script_of p).shared) (length world.drawn.items)) same world.numbers in
     lawful_by program c.loop-task.tasks c.in_ok-journals.journals (journals_in world.objects.items) world.drawn.items run c.in_ok-journals.ensures.journals
     (c.in_ok-journals.ensures.each_object ∙ ap limit_of same) legal numbers

@@ -1,5 +1,5 @@
 use Rattle.std.proofs.Common.{◌≡◌}
-use Rattle.dlr_top.specs.Recorded.{journals_in}
+use Rattle.dlr_top.specs.Rows.{journals_in}
 use Rattle.dlr_top.proofs.Runs.{AreRun}
 use Rattle.dlr_top.proofs.run.tasks.run_tasks.Given as goal
 

@@ -3,8 +3,9 @@ use Rattle.std.proofs.lemmas.Option.{slice_get_within, slice_get-get_or, get_or_
 use Rattle.dyn_value.specs.declared.operator.BinOp.TheVariants.{Add}
 use Rattle.standard_binders.specs.declared.binder.Binder.TheVariants.{BinaryOperation}
 use Rattle.script_front.proofs.Numbers.{numbered_at}
+use Rattle.script_front.proofs.ShortNames.{of_all}
 use Rattle.script_front.specs.Programs.{script_of, binders_of}
-use Rattle.script_front.specs.Sites.{site_binders}
+use Rattle.script_front.specs.Sites.{site_binders, has_short_name}
 use Rattle.script_front.proofs.program.Program.binder_of.Goals as goal
 
 pub bounds-binders-number : goal.bounds-binders-number
@@ -29,3 +30,7 @@ returns-clause-number c =
     ∙ ap (λ z. slice_get z (get_or c.sites.result.now c.args.site 0)) (sym c.binders.ensures)
     ∙ slice_get-get_or c.binders.result.now (get_or c.sites.result.now c.args.site 0) d inside
     ∙ ap Some (sym c.index-binders-number.is)
+
+pub returns-clause-short_name : goal.returns-clause-short_name
+returns-clause-short_name c =
+    of_all has_short_name (site_binders (script_of c.args.self.now)) c.args.site c.index-binders-number.result c.args.self.now.short_names (returns-clause-binder c)

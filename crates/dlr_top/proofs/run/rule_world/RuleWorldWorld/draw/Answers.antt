@@ -1,7 +1,7 @@
 use Rattle.std.proofs.Common.{◌≡◌, ◌+◌, length, ap, arith}
 use Rattle.script_front.specs.Programs.{script_of}
 use Rattle.dlr_top.proofs.Worlds.{numbers_after}
-use Rattle.dlr_top.proofs.run.plain_world.PlainWorldWorld.draw.Goals as goal
+use Rattle.dlr_top.proofs.run.rule_world.RuleWorldWorld.draw.Goals as goal
 
 pub overflow_add-number : goal.overflow_add-number
 overflow_add-number c = omega (arith, c.len.ensures, c.args.self.now.drawn.small, c.args.self.now.drawn.ok.1, c.shared.ensures.few)
@@ -13,6 +13,6 @@ invariant_of-self c =
     omega (arith, ap length c.shared.ensures.shared, c.len.ensures, world.drawn.ok.0) in
     record {
       all = world.all;
-      kept = world.kept;
+      alike = world.alike;
       numbers = numbers_after (length (script_of world.program.now).shared) world.drawn.items c.push.new.self.items _ c.push.result world.numbers count c.push.ensures.items;
     }

@@ -1,37 +1,43 @@
-ghost use Rattle.std.specs.Prelude.{◌≡◌, length};
-ghost use Rattle.std.specs.List.{range_with_len};
+ghost use Rattle.std.specs.Prelude.{◌≡◌, ◌++◌, ◌∷◌, [], true, length, slice_get, Some, IfOk, OnErr};
+ghost use Rattle.std.specs.List.{AllByRecursion, range_with_len};
+ghost use Rattle.dyn_value.specs.Proper.{IsProperIn};
+ghost use Rattle.object_model.specs.Plain.{IsAnswerIn};
+ghost use Rattle.object_model.specs.Steps.{on_object};
+ghost use Rattle.rule_model.specs.Soundness.{Suit};
 ghost use Rattle.script_front.specs.Programs.{script_of};
+ghost use Rattle.script_front.specs.Sites.{has_short_name};
 ghost use Rattle.dlr_top.specs.Lawful.{limit_of};
-ghost use Rattle.dlr_top.specs.Recorded.{AreKept};
+ghost use Rattle.dlr_top.specs.Rows.{AreRowsOf, entry_by, journal_of, table_of, tag_of};
 
-use crate::run::plain_object::{EntryHead, PlainObject, copies};
+use crate::run::binding::Binding;
+use crate::run::object_row::{EntryHead, ObjectRow, Operation, RowTag, copies};
 use dyn_value::{Entry, Outcome, Value};
-use object_model::plain_outcome;
 use program_eval::{Asked, World};
 use script_front::Program;
 use sqlite_items::Items;
-use standard_binders::{Binder, FunTable};
+use standard_binders::Binder;
 use std::alloc::{AllocError, Global};
 use std::sync::Wait;
 
 /// How many objects a run may make.
 const MOST_MADE: usize = 4032;
 
-/// The objects of a run, and what answers its tasks, one after the other: each operation on an object steps its
-/// members as they stand, and every other one is answered by its operands alone.
+/// The objects of a run, and what answers its tasks, one after the other: each operation is bound anew, and answered by
+/// the rule that is bound.
 #[derive(Drop)]
-pub(crate) struct PlainWorld<'a> {
+pub(crate) struct RuleWorld<'a> {
     program: &'a Program,
     task: u32,
-    objects: Vec<PlainObject>,
+    binding: Binding,
+    objects: Vec<ObjectRow<'a>>,
     drawn: Vec<u64>,
     asked: Vec<Asked>,
     ghost all: { length objects.items ≡ limit_of program.now },
-    ghost kept: { ∥ AreKept program.now objects.items ∥₁ },
+    ghost alike: { ∥ AreRowsOf program.now binding.table objects.items ∥₁ },
     ghost numbers: { drawn.items ≡ range_with_len (length (script_of program.now).shared) (length drawn.items) },
 }
 
-impl<'a> PlainWorld<'a> {
+impl<'a> RuleWorld<'a> {
     ghost use Rattle.std.specs.Prelude.{◌≡◌, ◌<◌, ◌≤◌, ◌+◌, ℕ, List, [], ◌∷◌, ◌++◌, drop, length, slice_get, get_or, Some, IfOk, OnOk, OnErr};
     ghost use Rattle.std.specs.List.{AllByRecursion};
     ghost use Rattle.dyn_value.specs.Proper.{IsProperIn};
@@ -42,22 +48,29 @@ impl<'a> PlainWorld<'a> {
     ghost use Rattle.script_front.specs.Programs.{script_of, sites_of};
     ghost use Rattle.script_front.specs.Sites.{site_binders};
     ghost use Rattle.dlr_top.specs.Lawful.{limit_of, journal_at};
-    ghost use Rattle.dlr_top.specs.Recorded.{journals_in};
+    ghost use Rattle.dlr_top.specs.Rows.{journals_in};
 
     /// A world for the program in which nothing was done yet.
-    pub(crate) fn new(alloc: Global, program: &'a Program) -> Result<PlainWorld<'a>, AllocError>
+    pub(crate) fn new(alloc: Global, program: &'a Program) -> Result<RuleWorld<'a>, AllocError>
         ensures program { IfOk result (λ w. w.program.now ≡ program.now) }
         ensures entries { IfOk result (λ w. (object : ℕ) → journals_in w.objects.items object ≡ []) }
         ensures drawn { IfOk result (λ w. w.drawn.items ≡ []) }
     {
         let count = program.shared().len() + MOST_MADE;
+        let binding = Binding::new(alloc)?;
+        let tag = RowTag {
+            binders: program.binders(),
+            functions: 0,
+            limit: count as u32,
+        };
         let mut objects = Vec::with_capacity(alloc, count)?;
         for _ in 0..count {
-            objects.push(PlainObject::new(alloc))?;
+            objects.push(ObjectRow::new(alloc, tag, binding.table()))?;
         }
-        Ok(PlainWorld {
+        Ok(RuleWorld {
             program,
             task: 0,
+            binding,
             objects,
             drawn: Vec::new(alloc),
             asked: Vec::new(alloc),
@@ -104,8 +117,9 @@ impl<'a> PlainWorld<'a> {
 
     /// The outcome of an operation, which is entered where it is one on an object. Where memory is refused, every
     /// object stays as it was.
-    fn outcome_of(
+    fn outcome_of<R: Wait>(
         &mut self,
+        rt: &R,
         alloc: Global,
         site: u32,
         operands: &[Value],
@@ -124,27 +138,35 @@ impl<'a> PlainWorld<'a> {
         let program = self.program;
         let binder = program.binder_of(site);
         match object_of(binder, operands) {
-            Some((object, rest)) => {
+            Some((object, arguments)) => {
                 let head = EntryHead {
+                    pass: 0,
                     task: self.task,
                     binder: program.sites()[site as usize],
                 };
-                self.objects[object as usize].operate(head, binder, rest)
-            }
-            None => {
-                // no script has functions so far
-                let functions = FunTable {
-                    params: Items::new(alloc),
+                let operation = Operation {
+                    head,
+                    object,
+                    operands,
+                    arguments,
                 };
-                plain_outcome(alloc, &functions, binder, operands)
+                operate_on(
+                    rt,
+                    alloc,
+                    &mut self.binding,
+                    &mut self.objects[object as usize],
+                    binder,
+                    &operation,
+                )
             }
+            None => self.binding.plain_outcome(rt, alloc, binder, operands),
         }
     }
 }
 
-impl World for PlainWorld<'_> {
+impl World for RuleWorld<'_> {
     ghost use Rattle.dlr_top.specs.Lawful.{limit_of};
-    ghost use Rattle.dlr_top.specs.Recorded.{journals_in};
+    ghost use Rattle.dlr_top.specs.Rows.{journals_in};
 
     ghost program = { λ world. world.program.now };
 
@@ -162,7 +184,7 @@ impl World for PlainWorld<'_> {
 
     fn operate<R: Wait>(
         &mut self,
-        _rt: &R,
+        rt: &R,
         alloc: Global,
         site: u32,
         operands: &[Value],
@@ -172,7 +194,7 @@ impl World for PlainWorld<'_> {
             operands: copies(alloc, operands)?,
         };
         self.asked.reserve(1)?;
-        let outcome = self.outcome_of(alloc, site, operands)?;
+        let outcome = self.outcome_of(rt, alloc, site, operands)?;
         match self.asked.push(asked) {
             Ok(()) => Ok(outcome),
             Err(_) => unreachable!(),
@@ -201,4 +223,33 @@ fn object_of<'a>(binder: &Binder, operands: &'a [Value]) -> Option<(u32, &'a [Va
         [Value::Obj(object), rest @ ..] if binder.is_on_members() => Some((*object, rest)),
         _ => None,
     }
+}
+
+/// Binds an operation on an object and makes it: its entry is added. Where memory is refused, members and journal stay.
+fn operate_on<R: Wait>(
+    rt: &R,
+    alloc: Global,
+    binding: &mut Binding,
+    row: &mut ObjectRow<'_>,
+    binder: &Binder,
+    operation: &Operation<'_>,
+) -> Result<Outcome, AllocError>
+    requires own { table_of row.old ≡ binding.old.table }
+    requires no_functions { (tag_of row.old).functions ≡ 0 }
+    requires number { slice_get (tag_of row.old).binders.now operation.now.head.binder ≡ Some binder.now }
+    requires short_name { has_short_name binder.now ≡ true }
+    requires on { on_object binder.now operation.now.operands.now ≡ Some (record { object = operation.now.object; operands = operation.now.arguments.now }) }
+    requires suit { Suit binder.now operation.now.operands.now }
+    requires proper { AllByRecursion (IsProperIn 0 (tag_of row.old).limit) operation.now.operands.now }
+    ensures answer { IfOk result (IsAnswerIn 0 (tag_of row.old).limit) }
+    ensures journal { IfOk result (λ o. journal_of row.new ≡ journal_of row.old ++ entry_by operation.now.head operation.now.arguments.now o ∷ []) }
+    ensures refused { OnErr result (journal_of row.new ≡ journal_of row.old) }
+    ensures tag { tag_of row.new ≡ tag_of row.old }
+    ensures row_table { table_of row.new ≡ table_of row.old }
+    ensures table { binding.new.table ≡ binding.old.table }
+{
+    let rule = binding.bind(rt, alloc, binder, operation.operands, Some(row.class()))?;
+    let after = binding.class_after(rule.claim());
+    let ready = row.prepare(alloc, rule.body(), operation)?;
+    Ok(row.commit(&rule, operation, ready, after))
 }

@@ -1,0 +1,195 @@
+//! The binding of the operations of a run.
+ghost use Rattle.std.specs.Prelude.{◌≡◌, ◌≤◌, [], IfOk, Some, length, slice_get};
+ghost use Rattle.std.specs.Option.{option_copied};
+ghost use Rattle.dyn_value.specs.declared.value.Value.{Value as Operand};
+ghost use Rattle.expando_class.specs.Pass.{IsPassOf};
+ghost use Rattle.meta_object.specs.Metas.{IsLendable};
+ghost use Rattle.meta_object.specs.Operands.{AreMetasOf, lent_at};
+ghost use Rattle.standard_binders.specs.Binders.{operand_count_of};
+ghost use Rattle.dlr_top.specs.Bindings.{HasProperContent};
+ghost use Rattle.dlr_top.specs.RowProps.{pass_prop};
+
+use dyn_value::{Outcome, Value};
+use expando_class::{ClassPass, ClassRef, ClassTable};
+use fallback::Script;
+use meta_object::{
+    BindContext, MetaObject, metaobjects_describe_their_operands,
+    operations_are_bound_by_their_metaobjects,
+};
+use rule::{Binds, Rule, bind};
+use rule_model::Claim;
+use sqlite_items::Items;
+use standard_binders::{Binder, FunTable};
+use std::alloc::{AllocError, Global};
+use std::sync::Wait;
+use tree_eval::eval_plain;
+
+/// What the operations of a run are bound by: the language, the classes of its objects, and those of them that are known.
+#[derive(Drop)]
+pub(crate) struct Binding {
+    language: Script,
+    table: ClassTable,
+    pass: ClassPass,
+    ghost empty: { language.functions.params ≡ [] },
+    ghost own: { IsPassOf table pass } by { pass_prop table pass },
+}
+
+impl Binding {
+    ghost use Rattle.std.specs.Prelude.{◌≡◌, ℕ, true, IfOk, IfSome, Some, None};
+    ghost use Rattle.std.specs.List.{AllByRecursion};
+    ghost use Rattle.std.specs.Option.{option_and_then, option_copied, option_map};
+    ghost use Rattle.dyn_value.specs.Proper.{IsProperIn};
+    ghost use Rattle.expando_class.specs.Class.{number_of, names_of, IsClassOf};
+    ghost use Rattle.expando_class.specs.Pass.{class_map};
+    ghost use Rattle.object_model.specs.Plain.{IsAnswerIn, plain_step};
+    ghost use Rattle.object_model.specs.Steps.{on_object};
+    ghost use Rattle.program_eval.specs.Stores.{no_functions};
+    ghost use Rattle.rule_model.specs.Claims as claims;
+    ghost use Rattle.rule_model.specs.Soundness.{Suit};
+    ghost use Rattle.script_front.specs.Sites.{has_short_name};
+    ghost use Rattle.dlr_top.specs.Bindings.{IsBindable, IsRuleFor};
+
+    /// The root class alone, and a language without functions, since no script has any so far.
+    pub(crate) fn new(alloc: Global) -> Result<Binding, AllocError> {
+        let table = ClassTable::new(alloc)?;
+        let pass = table.pass(alloc)?;
+        let language = Script::make(FunTable {
+            params: Items::new(alloc),
+        });
+        Ok(Binding {
+            language,
+            table,
+            pass,
+        })
+    }
+
+    /// The classes.
+    pub(crate) fn table(&self) -> &ClassTable
+        ensures { result.now ≡ self.now.table }
+    {
+        &self.table
+    }
+
+    /// A rule for the operation on these operands, the target first, where the class is lent. Where memory is refused,
+    /// there may be a further class, which no object has.
+    pub(crate) fn bind<R: Wait>(
+        &mut self,
+        rt: &R,
+        alloc: Global,
+        binder: &Binder,
+        operands: &[Value],
+        class: Option<&ClassRef>,
+    ) -> Result<Rule, AllocError>
+        requires { IsBindable self.old.table binder.now operands.now (option_copied class) }
+        ensures rule { IfOk result (IsRuleFor self.new.pass binder.now operands.now (option_copied class.entry)) }
+        ensures table { self.new.table ≡ self.old.table }
+    {
+        show_few_operands(binder);
+        let metas = metas_of(alloc, operands, class)?;
+        metaobjects_describe_their_operands();
+        operations_are_bound_by_their_metaobjects();
+        let mut binds = Binds { count: 0 };
+        let mut cx = BindContext {
+            table: &self.table,
+            pass: &mut self.pass,
+        };
+        let rule = bind(
+            alloc,
+            rt,
+            &mut binds,
+            &self.language,
+            &mut cx,
+            binder,
+            metas.as_slice(),
+        )?;
+        // It is sound.
+        rule.claim();
+        Ok(rule)
+    }
+
+    /// The class after that a claim names, where it is known.
+    pub(crate) fn class_after(&self, claim: &Claim) -> Option<ClassRef>
+        ensures names { option_map names_of result ≡ option_and_then (class_map self.now.pass) (claims.class_after claim.now) }
+        ensures number { IfSome result (λ class. claims.class_after claim.now ≡ Some (number_of class)) }
+        ensures of { IfSome result (IsClassOf self.now.table) }
+    {
+        let number = claim.class.as_ref()?.after?;
+        self.pass.known(number)
+    }
+
+    /// The outcome of an operation that looks at no object.
+    pub(crate) fn plain_outcome<R: Wait>(
+        &mut self,
+        rt: &R,
+        alloc: Global,
+        binder: &Binder,
+        operands: &[Value],
+    ) -> Result<Outcome, AllocError>
+        requires none { on_object binder.now operands.now ≡ None }
+        requires short_name { has_short_name binder.now ≡ true }
+        requires suit { Suit binder.now operands.now }
+        requires proper { (objects : ℕ) × AllByRecursion (IsProperIn 0 objects) operands.now }
+        ensures outcome { IfOk result (λ o. o ≡ plain_step no_functions binder.now operands.now) }
+        ensures answer { (objects : ℕ) → AllByRecursion (IsProperIn 0 objects) operands.now → IfOk result (IsAnswerIn 0 objects) }
+        ensures table { self.new.table ≡ self.old.table }
+    {
+        let rule = self.bind(rt, alloc, binder, operands, None)?;
+        let outcome = eval_plain(alloc, rule.body(), operands)?;
+        show_proper_content(&outcome);
+        Ok(outcome)
+    }
+}
+
+/// The metaobjects of the operands; the class is lent to the first.
+fn metas_of(
+    alloc: Global,
+    operands: &[Value],
+    class: Option<&ClassRef>,
+) -> Result<Vec<MetaObject>, AllocError>
+    requires few { length operands.now ≤ 17 }
+    requires lendable { (v : Operand) → slice_get operands.now 0 ≡ Some v → IsLendable (option_copied class) v }
+    ensures { IfOk result (λ metas. AreMetasOf operands.now (option_copied class.entry) metas.items) }
+{
+    let mut metas = Vec::with_capacity(alloc, operands.len())?;
+    for (number, value) in operands.iter().enumerate() {
+        let meta = MetaObject::of(alloc, number as u8, value, lent_to(number, class))?;
+        metas.push(meta)?;
+    }
+    Ok(metas)
+}
+
+/// The class is lent to the first operand.
+fn lent_to<'c>(number: usize, class: Option<&'c ClassRef>) -> Option<&'c ClassRef>
+    ensures { option_copied result ≡ lent_at number (option_copied class.entry) }
+{
+    if number == 0 { class } else { None }
+}
+
+/// Shows that an operation has at most 17 operands.
+fn show_few_operands(binder: &Binder)
+    ensures { operand_count_of binder.now ≤ 17 }
+{
+    match binder {
+        Binder::Invoke { info }
+        | Binder::InvokeMember { info, .. }
+        | Binder::CreateInstance { info } => {
+            info.count();
+        }
+        _ => {}
+    }
+}
+
+/// Shows that a number or a text that was answered is proper.
+fn show_proper_content(outcome: &Outcome)
+    ensures { HasProperContent outcome.now }
+{
+    match outcome {
+        Outcome::Value(Value::Int(number)) => {
+            let _number = *number;
+        }
+        Outcome::Value(Value::Text(text)) => {
+            text.as_str();
+        }
+        _ => {}
+    }
+}
