@@ -10,7 +10,6 @@ mod suggestions;
 mod values;
 
 use crate::tests::bindings::{Way, printed_bound};
-use crate::tests::calls::CALLS;
 use crate::tests::members::{KEYS, MEMBERS};
 use crate::tests::operation::{Operation, Row};
 use crate::tests::values::VALUES;
@@ -51,9 +50,4 @@ fn keys_of_objects(rt: HostRuntime) -> Result<(), Fail> {
 #[test]
 fn members_and_indexes_of_values(rt: HostRuntime) -> Result<(), Fail> {
     expect_rows(&rt, rt.alloc(), &VALUES)
-}
-
-#[test]
-fn calls_and_creations(rt: HostRuntime) -> Result<(), Fail> {
-    expect_rows(&rt, rt.alloc(), &CALLS)
 }
