@@ -9,7 +9,7 @@ mod operators;
 mod suggestions;
 mod values;
 
-use crate::tests::bindings::{Way, printed_bound};
+use crate::tests::bindings::{WAYS, printed_bound};
 use crate::tests::members::{KEYS, MEMBERS};
 use crate::tests::operation::{Operation, Row};
 use crate::tests::values::VALUES;
@@ -26,7 +26,7 @@ fn expect_rows<R: Abort + Wait>(rt: &R, alloc: Global, rows: &[Row]) -> Result<(
             operands,
             names,
         };
-        for way in [Way::Bind, Way::FallBack] {
+        for way in WAYS {
             let text = printed_bound(rt, alloc, operation, way)?;
             assert!(rt;
                 text.as_slice() == want.as_bytes(),

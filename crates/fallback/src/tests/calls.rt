@@ -1,5 +1,5 @@
 //! What is bound where a function is called or makes an object; expected texts are worked out by hand.
-use crate::tests::bindings::{Way, printed_bound};
+use crate::tests::bindings::{WAYS, printed_bound};
 use crate::tests::operation::Asked::{Create, Invoke};
 use crate::tests::operation::Operand::{Fun, Int};
 use crate::tests::operation::{Asked, Operation};
@@ -72,7 +72,7 @@ fn expect_call<R: Abort + Wait>(
         operands.push(Int)?;
     }
     let want = format!(in alloc; "(and (kind 0 Fun) (fun 0 {number})) {body}")?;
-    for way in [Way::Bind, Way::FallBack] {
+    for way in WAYS {
         let operation = Operation {
             asked,
             operands: &operands,
