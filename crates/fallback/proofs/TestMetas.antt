@@ -25,8 +25,10 @@ use Rattle.rule_model.specs.Soundness.{IsSound, looks_at_none}
 use Rattle.rule_model.proofs.MemberSoundness.{long_sound}
 use Rattle.meta_object.specs.declared.bound.Bound.{Bound}
 use Rattle.meta_object.specs.Bindings.{IsSoundFor}
+use Rattle.meta_object.specs.declared.context.BindContext.{BindContext}
 use Rattle.meta_object.specs.declared.meta.MetaObject.{MetaObject}
-use Rattle.meta_object.specs.Metas.{IsMetaOf}
+use Rattle.meta_object.specs.Contexts.{KeepsContext}
+use Rattle.meta_object.specs.Metas.{CanBind, IsMetaOf}
 use Rattle.meta_object.specs.Operands.{IsLentFor, lent_at}
 
 -- what holds of each element and of one more
@@ -91,3 +93,19 @@ long_key_sound functions pass metas bound tests body claim = record {
     fun = record { params = λ f e. (let no : None ≡ Some f = sym (ap (λ (k : Claim). k.fun) claim) ∙ e in cc) };
   };
 }
+
+-- what can be bound can be after a binding
+pub can_still : (functions : Functions) (old new : BindContext) (b : Binder) (metas : List MetaObject) → KeepsContext old new → CanBind functions old.table.now old.pass.now b metas → CanBind functions new.table.now new.pass.now b metas
+can_still functions old new b metas keeps can =
+    let still : CanBind functions old.table.now new.pass.now b metas = record {
+      key = can.key;
+      count = can.count;
+      own = keeps.own;
+      placed = can.placed;
+      valued = can.valued;
+      callable = can.callable;
+      of = can.of;
+      expando = can.expando;
+    } in
+    let same = keeps.table in
+    rw same still

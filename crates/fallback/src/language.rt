@@ -34,7 +34,8 @@ impl Language for Script {
         ensures bound { IfOk result (λ bound.
             IsSoundAnswer self.now.functions.params cx.new.pass.now binder.now metas.now suggestion bound) }
         ensures answer { IfOk result (IsFallback binder.now metas.now suggestion) }
-        ensures answers { IfOk result (IsOwnFirst self.now.functions.params cx.new.pass.now binder.now metas.now suggestion) }
+        ensures answers { IfOk result (
+            IsOwnFirst self.now.functions.params cx.new.pass.now binder.now metas.now suggestion) }
         ensures context { KeepsContext cx.old cx.new }
     {
         self.fallback(alloc, rt, cx, binder, metas, suggestion)
@@ -54,7 +55,8 @@ impl Language for Script {
         ensures bound { IfOk result (λ bound.
             IsSoundAnswer self.now.functions.params cx.new.pass.now binder.now metas.now suggestion bound) }
         ensures answer { IfOk result (IsFallback binder.now metas.now suggestion) }
-        ensures answers { IfOk result (IsOwnFirst self.now.functions.params cx.new.pass.now binder.now metas.now suggestion) }
+        ensures answers { IfOk result (
+            IsOwnFirst self.now.functions.params cx.new.pass.now binder.now metas.now suggestion) }
         ensures context { KeepsContext cx.old cx.new }
     {
         self.fallback(alloc, rt, cx, binder, metas, suggestion)
@@ -74,7 +76,8 @@ impl Language for Script {
         ensures bound { IfOk result (λ bound.
             IsSoundAnswer self.now.functions.params cx.new.pass.now binder.now metas.now suggestion bound) }
         ensures answer { IfOk result (IsFallback binder.now metas.now suggestion) }
-        ensures answers { IfOk result (IsOwnFirst self.now.functions.params cx.new.pass.now binder.now metas.now suggestion) }
+        ensures answers { IfOk result (
+            IsOwnFirst self.now.functions.params cx.new.pass.now binder.now metas.now suggestion) }
         ensures context { KeepsContext cx.old cx.new }
     {
         self.fallback(alloc, rt, cx, binder, metas, suggestion)
@@ -94,7 +97,8 @@ impl Language for Script {
         ensures bound { IfOk result (λ bound.
             IsSoundAnswer self.now.functions.params cx.new.pass.now binder.now metas.now suggestion bound) }
         ensures answer { IfOk result (IsFallback binder.now metas.now suggestion) }
-        ensures answers { IfOk result (IsOwnFirst self.now.functions.params cx.new.pass.now binder.now metas.now suggestion) }
+        ensures answers { IfOk result (
+            IsOwnFirst self.now.functions.params cx.new.pass.now binder.now metas.now suggestion) }
         ensures context { KeepsContext cx.old cx.new }
     {
         self.fallback(alloc, rt, cx, binder, metas, suggestion)
@@ -114,7 +118,8 @@ impl Language for Script {
         ensures bound { IfOk result (λ bound.
             IsSoundAnswer self.now.functions.params cx.new.pass.now binder.now metas.now suggestion bound) }
         ensures answer { IfOk result (IsFallback binder.now metas.now suggestion) }
-        ensures answers { IfOk result (IsOwnFirst self.now.functions.params cx.new.pass.now binder.now metas.now suggestion) }
+        ensures answers { IfOk result (
+            IsOwnFirst self.now.functions.params cx.new.pass.now binder.now metas.now suggestion) }
         ensures context { KeepsContext cx.old cx.new }
     {
         self.fallback(alloc, rt, cx, binder, metas, suggestion)
@@ -134,7 +139,8 @@ impl Language for Script {
         ensures bound { IfOk result (λ bound.
             IsSoundAnswer self.now.functions.params cx.new.pass.now binder.now metas.now suggestion bound) }
         ensures answer { IfOk result (IsFallback binder.now metas.now suggestion) }
-        ensures answers { IfOk result (IsOwnFirst self.now.functions.params cx.new.pass.now binder.now metas.now suggestion) }
+        ensures answers { IfOk result (
+            IsOwnFirst self.now.functions.params cx.new.pass.now binder.now metas.now suggestion) }
         ensures context { KeepsContext cx.old cx.new }
     {
         self.fallback(alloc, rt, cx, binder, metas, suggestion)
@@ -154,7 +160,8 @@ impl Language for Script {
         ensures bound { IfOk result (λ bound.
             IsSoundAnswer self.now.functions.params cx.new.pass.now binder.now metas.now suggestion bound) }
         ensures answer { IfOk result (IsFallback binder.now metas.now suggestion) }
-        ensures answers { IfOk result (IsOwnFirst self.now.functions.params cx.new.pass.now binder.now metas.now suggestion) }
+        ensures answers { IfOk result (
+            IsOwnFirst self.now.functions.params cx.new.pass.now binder.now metas.now suggestion) }
         ensures context { KeepsContext cx.old cx.new }
     {
         self.fallback(alloc, rt, cx, binder, metas, suggestion)
@@ -174,7 +181,8 @@ impl Language for Script {
         ensures bound { IfOk result (λ bound.
             IsSoundAnswer self.now.functions.params cx.new.pass.now binder.now metas.now suggestion bound) }
         ensures answer { IfOk result (IsFallback binder.now metas.now suggestion) }
-        ensures answers { IfOk result (IsOwnFirst self.now.functions.params cx.new.pass.now binder.now metas.now suggestion) }
+        ensures answers { IfOk result (
+            IsOwnFirst self.now.functions.params cx.new.pass.now binder.now metas.now suggestion) }
         ensures context { KeepsContext cx.old cx.new }
     {
         self.fallback(alloc, rt, cx, binder, metas, suggestion)
@@ -194,7 +202,8 @@ impl Language for Script {
         ensures bound { IfOk result (λ bound.
             IsSoundAnswer self.now.functions.params cx.new.pass.now binder.now metas.now suggestion bound) }
         ensures answer { IfOk result (IsFallback binder.now metas.now suggestion) }
-        ensures answers { IfOk result (IsOwnFirst self.now.functions.params cx.new.pass.now binder.now metas.now suggestion) }
+        ensures answers { IfOk result (
+            IsOwnFirst self.now.functions.params cx.new.pass.now binder.now metas.now suggestion) }
         ensures context { KeepsContext cx.old cx.new }
     {
         self.fallback(alloc, rt, cx, binder, metas, suggestion)
@@ -214,7 +223,8 @@ impl Language for Script {
         ensures bound { IfOk result (λ bound.
             IsSoundAnswer self.now.functions.params cx.new.pass.now binder.now metas.now suggestion bound) }
         ensures answer { IfOk result (IsFallback binder.now metas.now suggestion) }
-        ensures answers { IfOk result (IsOwnFirst self.now.functions.params cx.new.pass.now binder.now metas.now suggestion) }
+        ensures answers { IfOk result (
+            IsOwnFirst self.now.functions.params cx.new.pass.now binder.now metas.now suggestion) }
         ensures context { KeepsContext cx.old cx.new }
     {
         self.fallback(alloc, rt, cx, binder, metas, suggestion)
@@ -234,7 +244,8 @@ impl Language for Script {
         ensures bound { IfOk result (λ bound.
             IsSoundAnswer self.now.functions.params cx.new.pass.now binder.now metas.now suggestion bound) }
         ensures answer { IfOk result (IsFallback binder.now metas.now suggestion) }
-        ensures answers { IfOk result (IsOwnFirst self.now.functions.params cx.new.pass.now binder.now metas.now suggestion) }
+        ensures answers { IfOk result (
+            IsOwnFirst self.now.functions.params cx.new.pass.now binder.now metas.now suggestion) }
         ensures context { KeepsContext cx.old cx.new }
     {
         self.fallback(alloc, rt, cx, binder, metas, suggestion)
@@ -254,7 +265,8 @@ impl Language for Script {
         ensures bound { IfOk result (λ bound.
             IsSoundAnswer self.now.functions.params cx.new.pass.now binder.now metas.now suggestion bound) }
         ensures answer { IfOk result (IsFallback binder.now metas.now suggestion) }
-        ensures answers { IfOk result (IsOwnFirst self.now.functions.params cx.new.pass.now binder.now metas.now suggestion) }
+        ensures answers { IfOk result (
+            IsOwnFirst self.now.functions.params cx.new.pass.now binder.now metas.now suggestion) }
         ensures context { KeepsContext cx.old cx.new }
     {
         self.fallback(alloc, rt, cx, binder, metas, suggestion)

@@ -50,7 +50,8 @@ impl Script {
         ensures bound { IfOk result (λ bound.
             IsSoundAnswer self.now.functions.params cx.new.pass.now binder.now metas.now suggestion bound) }
         ensures answer { IfOk result (IsFallback binder.now metas.now suggestion) }
-        ensures answers { IfOk result (IsOwnFirst self.now.functions.params cx.new.pass.now binder.now metas.now suggestion) }
+        ensures answers { IfOk result (
+            IsOwnFirst self.now.functions.params cx.new.pass.now binder.now metas.now suggestion) }
         ensures context { KeepsContext cx.old cx.new }
     {
         match suggestion {

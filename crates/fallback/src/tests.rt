@@ -9,8 +9,7 @@ mod operators;
 mod suggestions;
 mod values;
 
-use crate::tests::bindings::{Way, printed_bound};
-use crate::tests::calls::CALLS;
+use crate::tests::bindings::{WAYS, printed_bound};
 use crate::tests::members::{KEYS, MEMBERS};
 use crate::tests::operation::{Operation, Row};
 use crate::tests::values::VALUES;
@@ -27,7 +26,7 @@ fn expect_rows<R: Abort + Wait>(rt: &R, alloc: Global, rows: &[Row]) -> Result<(
             operands,
             names,
         };
-        for way in [Way::Bind, Way::FallBack] {
+        for way in WAYS {
             let text = printed_bound(rt, alloc, operation, way)?;
             assert!(rt;
                 text.as_slice() == want.as_bytes(),
@@ -51,9 +50,4 @@ fn keys_of_objects(rt: HostRuntime) -> Result<(), Fail> {
 #[test]
 fn members_and_indexes_of_values(rt: HostRuntime) -> Result<(), Fail> {
     expect_rows(&rt, rt.alloc(), &VALUES)
-}
-
-#[test]
-fn calls_and_creations(rt: HostRuntime) -> Result<(), Fail> {
-    expect_rows(&rt, rt.alloc(), &CALLS)
 }

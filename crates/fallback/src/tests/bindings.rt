@@ -2,7 +2,8 @@
 ghost use Rattle.std.specs.Prelude.{IfOk};
 ghost use Rattle.expando_class.specs.Class.{IsClassOf};
 ghost use Rattle.expando_class.specs.Pass.{IsPassOf};
-ghost use Rattle.meta_object.specs.Bindings.{IsSuggestion};
+ghost use Rattle.meta_object.specs.Bindings.{IsSoundFor, IsSuggestion};
+ghost use Rattle.meta_object.specs.Contexts.{KeepsContext};
 ghost use Rattle.meta_object.specs.Metas.{CanBind};
 
 use crate::Script;
@@ -20,7 +21,12 @@ use std::test::Fail;
 pub(crate) enum Way {
     Bind,
     FallBack,
+    /// The fallback, where what it answers by itself is suggested to it.
+    Beside,
 }
+
+/// Each of them.
+pub(crate) const WAYS: [Way; 3] = [Way::Bind, Way::FallBack, Way::Beside];
 
 /// The test and the body of an operation's bound.
 pub(crate) fn printed_bound(
@@ -55,6 +61,7 @@ pub(crate) fn bound_of(
     let bound = match way {
         Way::Bind => bind(alloc, rt, &language, &mut cx, &binder, &metas)?,
         Way::FallBack => fall_back(alloc, rt, &language, &mut cx, &binder, &metas, None)?,
+        Way::Beside => fall_back_beside(alloc, rt, &language, &mut cx, &binder, &metas)?,
     };
     Ok(bound)
 }
@@ -163,6 +170,8 @@ pub(crate) fn fall_back<R: Wait>(
 ) -> Result<Bound, AllocError>
     requires can { CanBind language.now.functions.params cx.old.table.now cx.old.pass.now binder.now metas.now }
     requires suggestion { IsSuggestion language.now.functions.params cx.old.pass.now binder.now metas.now suggestion }
+    ensures sound { IfOk result (IsSoundFor language.now.functions.params cx.new.pass.now binder.now metas.now) }
+    ensures context { KeepsContext cx.old cx.new }
 {
     match binder {
         Binder::GetMember { .. } => {
@@ -202,4 +211,20 @@ pub(crate) fn fall_back<R: Wait>(
             language.fallback_binary_operation(alloc, rt, cx, binder, metas, suggestion)
         }
     }
+}
+
+/// What the language answers where its own answer is suggested to it.
+fn fall_back_beside<R: Wait>(
+    alloc: Global,
+    rt: &R,
+    language: &Script,
+    cx: &mut BindContext,
+    binder: &Binder,
+    metas: &[MetaObject],
+) -> Result<Bound, AllocError>
+    requires { CanBind language.now.functions.params cx.old.table.now cx.old.pass.now binder.now metas.now }
+{
+    let own = fall_back(alloc, rt, language, cx, binder, metas, None)?;
+    let beside = fall_back(alloc, rt, language, cx, binder, metas, Some(own))?;
+    Ok(beside)
 }

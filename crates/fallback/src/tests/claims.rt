@@ -1,5 +1,5 @@
 //! What the bounds of operations claim; expected claims are worked out by hand.
-use crate::tests::bindings::{Way, bound_of};
+use crate::tests::bindings::{WAYS, bound_of};
 use crate::tests::members::SIXTY_FOUR;
 use crate::tests::operation::{Asked, Operand, Operation};
 use rule_model::{ClassClaim, FunClaim};
@@ -92,7 +92,7 @@ fn claims_on_classes(rt: HostRuntime) -> Result<(), Fail> {
             operands,
             names,
         };
-        for way in [Way::Bind, Way::FallBack] {
+        for way in WAYS {
             let bound = bound_of(&rt, alloc, operation, way)?;
             assert!(rt; is_claim(&bound.claim.class, want), "{asked:?}");
             assert!(rt; bound.claim.fun.is_none(), "{asked:?}");
@@ -127,7 +127,7 @@ fn claims_on_functions(rt: HostRuntime) -> Result<(), Fail> {
             operands: &[Operand::Fun(2), Operand::Int],
             names: &[],
         };
-        for way in [Way::Bind, Way::FallBack] {
+        for way in WAYS {
             let bound = bound_of(&rt, alloc, operation, way)?;
             assert!(rt; is_function(&bound.claim.fun, 2, &["a", "b"]), "{asked:?}");
             assert!(rt; bound.claim.class.is_none(), "{asked:?}");
@@ -150,7 +150,7 @@ fn nothing_is_claimed_of_other_operands(rt: HostRuntime) -> Result<(), Fail> {
             operands,
             names: &["x"],
         };
-        for way in [Way::Bind, Way::FallBack] {
+        for way in WAYS {
             let bound = bound_of(&rt, alloc, operation, way)?;
             assert!(rt; bound.claim.class.is_none(), "{asked:?}");
             assert!(rt; bound.claim.fun.is_none(), "{asked:?}");

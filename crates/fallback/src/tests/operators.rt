@@ -1,5 +1,5 @@
 //! What is bound for operators and conversions, by the kinds of the operands.
-use crate::tests::bindings::{Way, printed_bound};
+use crate::tests::bindings::{WAYS, printed_bound};
 use crate::tests::operation::{Asked, Operand, Operation};
 use dyn_value::{BinOp, Kind, UnOp};
 use std::alloc::{AllocError, Global};
@@ -76,7 +76,7 @@ fn expect<R: Abort + Wait>(
         operands,
         names: &["x"],
     };
-    for way in [Way::Bind, Way::FallBack] {
+    for way in WAYS {
         let text = printed_bound(rt, alloc, operation, way)?;
         assert!(rt; text.as_slice() == want.as_bytes(), "{way:?}: {want}");
     }
