@@ -268,7 +268,7 @@ fits_of pass table b operation class after r rule on suits names number own = re
 
 -- a rule for an operation that looks at no object
 
-no_object : State
+abbrev no_object : State
 no_object = record { class = 0; names = []; values = [] }
 
 plain_of : (pass : ClassPass) (b : Binder) (operands : List Value) (r : Rule) → IsRuleFor pass b operands None r → on_object b operands ≡ None → Suit b operands

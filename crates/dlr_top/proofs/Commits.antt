@@ -166,14 +166,14 @@ pub record Committed (row : ObjectRow) (r : Rule) (operation : Operation) (after
   pub proper : AllByRecursion (IsProperIn (tag_of row).functions (tag_of row).limit) operation.arguments.now
   pub answers : o ≡ answer_in operation.operands.now (state_of (state_in row)) (root (body_of r))
   pub state : s ≡ state_after operation.operands.now (names_after after) (state_of (state_in row)) (root (body_of r))
-  pub journal : journal ≡ journal_of row ++ entry_by operation.head operation.arguments.now o ∷ []
+  pub grown : journal ≡ journal_of row ++ entry_by operation.head operation.arguments.now o ∷ []
 
 pub legal_of : (row : ObjectRow) (r : Rule) (operation : Operation) (after : Option ClassRef) (o : Outcome) (s : State) (journal : List Entry) → Committed row r operation after o s journal
     → IsLegal (tag_of row).binders.now [] journal
 legal_of row r operation after o s journal c =
     let bs = (tag_of row).binders.now in
     let e = entry_by operation.head operation.arguments.now o in
-    subst (IsLegal bs []) (sym c.journal)
+    subst (IsLegal bs []) (sym c.grown)
     (legal_push bs [] (journal_of row) e row.legal
         (ap outcome_by (entry_step_is bs (members_in row) operation.head (binder_of r) operation.arguments.now o c.number) ∙ outcome_of_step r operation row after o c.fits c.answers))
 
@@ -183,7 +183,7 @@ members_grown : (row : ObjectRow) (r : Rule) (operation : Operation) (after : Op
 members_grown row r operation after o s journal c =
     let bs = (tag_of row).binders.now in
     let e = entry_by operation.head operation.arguments.now o in
-    ap (members_after bs []) c.journal ∙ after_push bs [] (journal_of row) e
+    ap (members_after bs []) c.grown ∙ after_push bs [] (journal_of row) e
     ∙ ap (left_by (members_in row)) (entry_step_is bs (members_in row) operation.head (binder_of r) operation.arguments.now o c.number)
 
 pub kept_of : (row : ObjectRow) (r : Rule) (operation : Operation) (after : Option ClassRef) (o : Outcome) (s : State) (journal : List Entry) → Committed row r operation after o s journal

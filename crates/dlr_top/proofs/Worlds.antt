@@ -1,5 +1,5 @@
 -- The objects of a world and their journals, from operation to operation.
-use Rattle.std.proofs.Common.{◌≡◌, ◌≢◌, ℕ, zero, suc, ◌+◌, ◌<◌, Bool, true, false, if◌then◌else◌, nat_eq, List, [], ◌∷◌, ◌++◌, length, map, get_or, slice_get, Option, Some, Result, Ok, Err, IfOk, OnErr, refl, sym, ◌∙◌, ap, subst, arith, length-append, length-map}
+use Rattle.std.proofs.Common.{◌≡◌, ◌≢◌, ℕ, zero, suc, ◌+◌, ◌<◌, Bool, true, false, if◌then◌else◌, nat_eq, List, [], ◌∷◌, ◌++◌, length, map, get_or, slice_get, Option, Some, Result, Ok, Err, IfOk, OnErr, refl, sym, ◌∙◌, ap, subst, arith, length-append}
 use Rattle.std.proofs.lemmas.Bool.{eqb-true}
 use Rattle.std.proofs.lemmas.Bool.Decides.{nat_tests}
 use Rattle.std.proofs.lemmas.Grind.{get_or-set_at}
@@ -100,7 +100,7 @@ row_kept program table old new tag tables is = record {
   binders = ap (λ t. t.binders.now) tag ∙ is.binders;
   functions = ap (λ t. t.functions) tag ∙ is.functions;
   limit = ap (λ t. t.limit) tag ∙ is.limit;
-  table = tables ∙ is.table;
+  own = tables ∙ is.own;
 }
 
 pub rows_set : (program : Program) (table now : ClassTable) (rows : List ObjectRow) (i : ℕ) (old new : ObjectRow) → i < length rows → old ≡ get_or rows i old → now ≡ table → tag_of new ≡ tag_of old → table_of new ≡ table_of old

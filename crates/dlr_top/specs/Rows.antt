@@ -80,7 +80,7 @@ pub record IsRowOf (program : Program) (table : ClassTable) (row : ObjectRow) : 
   pub binders : (tag_of row).binders.now ≡ binders_of program
   pub functions : (tag_of row).functions ≡ 0
   pub limit : (tag_of row).limit ≡ limit_of program
-  pub table : table_of row ≡ table
+  pub own : table_of row ≡ table
 
 abbrev pub AreRowsOf : Program → ClassTable → List ObjectRow → Type 0
 AreRowsOf program table rows = AllByRecursion (IsRowOf program table) rows

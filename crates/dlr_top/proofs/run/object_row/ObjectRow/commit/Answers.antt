@@ -32,7 +32,7 @@ returns-clause-answer c =
       proper = c.requires.proper;
       answers = c.eval-answer.ensures.outcome ops prepared ∙ ap (λ (body : List Node). answer_in ops (state_of (state_in row)) (root body)) c.body.ensures;
       state = refl;
-      journal = refl;
+      grown = refl;
     })
 
 pub returns-clause-journal : goal.returns-clause-journal
@@ -53,7 +53,7 @@ invariant_of-self c =
       proper = c.requires.proper;
       answers = c.eval-answer.ensures.outcome ops prepared ∙ ap (λ (body : List Node). answer_in ops (state_of (state_in row)) (root body)) c.body.ensures;
       state = c.eval-answer.ensures.state ops prepared ∙ ap (λ (body : List Node). state_after ops (names_after c.args.after) (state_of (state_in row)) (root body)) c.body.ensures;
-      journal = c.push_reserved.ensures.items
+      grown = c.push_reserved.ensures.items
           ∙ ap (λ (e : Entry). journal_of row ++ e ∷ []) (entry_is c.args.ready operation c.eval-answer.result c.requires.ready.headed c.requires.ready.arguments (c.requires.ready.outcome ∙ sym c.eval-answer.ensures.kept));
     } in
     record {

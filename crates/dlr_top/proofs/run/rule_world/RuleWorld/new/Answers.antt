@@ -16,7 +16,7 @@ loop-preserved c =
       binders = ap (λ t. t.binders.now) tag ∙ c.binders.ensures;
       functions = ap (λ t. t.functions) tag;
       limit = ap (λ t. t.limit) tag ∙ omega (arith, ap length c.shared.ensures.shared);
-      table = c.new.ensures.table ∙ c.table.ensures;
+      own = c.new.ensures.table ∙ c.table.ensures;
     })
     c.new.ensures.journal
 

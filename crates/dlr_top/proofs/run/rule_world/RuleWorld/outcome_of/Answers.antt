@@ -17,11 +17,11 @@ use Rattle.dlr_top.proofs.Worlds.{journals_grow, journals_stay, row_at, rows_set
 use Rattle.dlr_top.proofs.run.rule_world.RuleWorld.outcome_of.Goals as goal
 
 pub invariant_of-operation : goal.invariant_of-operation
-invariant_of-operation c =
+invariant_of-operation g c =
     record { target = on_object_split c.binder_of-binder.result.now c.args.operands.now (record { object = c.in-Some.object; operands = c.in-Some.arguments.now }) c.in-Some.ensures }
 
 pub invariant_of-self : goal.invariant_of-self
-invariant_of-self c =
+invariant_of-self g c =
     let world = c.args.self.now in
     let x : OnObject = record { object = c.in-Some.object; operands = c.in-Some.arguments.now } in
     let target = target_proper 0 (limit_of world.program.now) c.binder_of-binder.result.now c.args.operands.now x c.in-Some.ensures c.requires.proper in
