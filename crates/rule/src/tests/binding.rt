@@ -1,7 +1,7 @@
 ghost use Rattle.expando_class.specs.Pass.{IsPassOf};
 
 use super::operations::{binder, operands, rule_for};
-use super::{class_of, functions, text};
+use super::{class_of, functions};
 use crate::{Binds, Rule};
 use expando_class::{ClassPass, ClassTable};
 use fallback::Script;
@@ -52,186 +52,107 @@ fn printed(alloc: Global, rule: &Rule) -> Result<Vec<u8>, Fail> {
     Ok(out)
 }
 
-#[test]
-fn rules_of_members(rt: HostRuntime) -> Result<(), Fail> {
-    let alloc = rt.alloc();
-    let cases: [(&[&str], &str, &str, &[&str], &str); 12] = [
-        (
-            &["x"],
-            "get",
-            "x",
-            &["object"],
-            "(if (and (kind 0 Obj) (class 1)) (read 0) update)",
-        ),
-        (
-            &["y"],
-            "get",
-            "x",
-            &["object"],
-            "(if (and (kind 0 Obj) (class 1)) (throw NoMember \"x\") update)",
-        ),
-        (
-            &[],
-            "get",
-            "length",
-            &["ab"],
-            "(if (kind 0 Text) (length 0) update)",
-        ),
-        (
-            &[],
-            "set",
-            "x",
-            &["object", "7"],
-            "(if (and (kind 0 Obj) (class 0)) (append 1 1) update)",
-        ),
-        (
-            &["x"],
-            "set",
-            "x",
-            &["object", "7"],
-            "(if (and (kind 0 Obj) (class 1)) (write 0 1) update)",
-        ),
-        (
-            &["x", "y"],
-            "delete",
-            "x",
-            &["object"],
-            "(if (and (kind 0 Obj) (class 2)) (remove 0 3) update)",
-        ),
-        (
-            &["x", "y"],
-            "delete",
-            "y",
-            &["object"],
-            "(if (and (kind 0 Obj) (class 2)) (remove 1 1) update)",
-        ),
-        (
-            &[],
-            "delete",
-            "x",
-            &["nil"],
-            "(if (kind 0 Nil) (throw NoMember \"x\") update)",
-        ),
-        (
-            &["x"],
-            "call member",
-            "x",
-            &["object", "7"],
-            "(if (and (kind 0 Obj) (class 1)) (read 0) update)",
-        ),
-        (
-            &[],
-            "get at",
-            "",
-            &["ab", "7"],
-            "(if (and (kind 0 Text) (kind 1 Int)) (char 0 1) update)",
-        ),
-        (
-            &["x"],
-            "get at",
-            "",
-            &["object", "x"],
-            "(if (and (and (kind 0 Obj) (class 1)) (key 1 \"x\")) (read 0) update)",
-        ),
-        (
-            &[],
-            "get at",
-            "",
-            &["7", "7"],
-            "(if (kind 0 Int) (throw NotIndexable Int) update)",
-        ),
-    ];
-    for (names, word, name, on, want) in cases {
-        let rule = bound(&rt, alloc, names, word, name, on)?;
-        assert!(rt;
-            printed(alloc, &rule)?.as_slice() == want.as_bytes(),
-            "{want}"
-        );
+/// What is bound has this text.
+fn wants(
+    rt: &impl Wait,
+    alloc: Global,
+    names: &[&str],
+    word: &str,
+    name: &str,
+    on: &[&str],
+    want: &str,
+) -> Result<(), Fail> {
+    let rule = bound(rt, alloc, names, word, name, on)?;
+    if printed(alloc, &rule)?.as_slice() != want.as_bytes() {
+        return Err(Fail::new("another rule"));
     }
     Ok(())
 }
 
 #[test]
-fn rules_of_indexes_and_values(rt: HostRuntime) -> Result<(), Fail> {
+fn rules_of_gets(rt: HostRuntime) -> Result<(), Fail> {
     let alloc = rt.alloc();
-    let long = "0123456789012345678901234567890123456789012345678901234567890123x";
-    let cases: [(&[&str], &str, &[&str], &str); 12] = [
-        (
-            &["x"],
-            "set at",
-            &["object", "y", "7"],
-            "(if (and (and (kind 0 Obj) (class 1)) (key 1 \"y\")) (append 2 2) update)",
-        ),
-        (
-            &["x"],
-            "set at",
-            &["object", "7", "7"],
-            "(if (and (kind 0 Obj) (kind 1 Int)) (throw NoIndex) update)",
-        ),
-        (
-            &["x"],
-            "delete at",
-            &["object", "x"],
-            "(if (and (and (kind 0 Obj) (class 1)) (key 1 \"x\")) (remove 0 0) update)",
-        ),
-        (
-            &["x"],
-            "delete at",
-            &["object", long],
-            "(if (and (kind 0 Obj) (long 1)) (throw NoIndex) update)",
-        ),
-        (
-            &[],
-            "call",
-            &["f", "7", "7"],
-            "(if (and (kind 0 Fun) (fun 0 0)) (call 0) update)",
-        ),
-        (
-            &[],
-            "call",
-            &["f", "7"],
-            "(if (and (kind 0 Fun) (fun 0 0)) (throw WrongCount 2 1) update)",
-        ),
-        (
-            &[],
-            "call",
-            &["nil"],
-            "(if (kind 0 Nil) (throw NotCallable Nil) update)",
-        ),
-        (
-            &[],
-            "new",
-            &["g"],
-            "(if (and (kind 0 Fun) (fun 0 1)) (make 1) update)",
-        ),
-        (
-            &[],
-            "new",
-            &["7"],
-            "(if (kind 0 Int) (throw NotCreatable Int) update)",
-        ),
-        (
-            &[],
-            "int",
-            &["ab"],
-            "(if (kind 0 Text) (convert Int 0) update)",
-        ),
-        (&[], "negate", &["7"], "(if (kind 0 Int) (Negate 0) update)"),
-        (
-            &[],
-            "add",
-            &["7", "7"],
-            "(if (and (kind 0 Int) (kind 1 Int)) (Add 0 1) update)",
-        ),
-    ];
-    for (names, word, on, want) in cases {
-        let rule = bound(&rt, alloc, names, word, "", on)?;
-        assert!(rt;
-            printed(alloc, &rule)?.as_slice() == want.as_bytes(),
-            "{want}"
-        );
-    }
-    Ok(())
+    let read = "(if (and (kind 0 Obj) (class 1)) (read 0) update)";
+    wants(&rt, alloc, &["x"], "get", "x", &["object"], read)?;
+    wants(
+        &rt,
+        alloc,
+        &["x"],
+        "call member",
+        "x",
+        &["object", "7"],
+        read,
+    )?;
+    let absent = "(if (and (kind 0 Obj) (class 1)) (throw NoMember \"x\") update)";
+    wants(&rt, alloc, &["y"], "get", "x", &["object"], absent)?;
+    let length = "(if (kind 0 Text) (length 0) update)";
+    wants(&rt, alloc, &[], "get", "length", &["ab"], length)
+}
+
+#[test]
+fn rules_of_changes(rt: HostRuntime) -> Result<(), Fail> {
+    let alloc = rt.alloc();
+    let appends = "(if (and (kind 0 Obj) (class 0)) (append 1 1) update)";
+    wants(&rt, alloc, &[], "set", "x", &["object", "7"], appends)?;
+    let writes = "(if (and (kind 0 Obj) (class 1)) (write 0 1) update)";
+    wants(&rt, alloc, &["x"], "set", "x", &["object", "7"], writes)?;
+    let removes = "(if (and (kind 0 Obj) (class 2)) (remove 0 3) update)";
+    wants(&rt, alloc, &["x", "y"], "delete", "x", &["object"], removes)?;
+    let no_member = "(if (kind 0 Nil) (throw NoMember \"x\") update)";
+    wants(&rt, alloc, &[], "delete", "x", &["nil"], no_member)
+}
+
+#[test]
+fn rules_of_indexes(rt: HostRuntime) -> Result<(), Fail> {
+    let alloc = rt.alloc();
+    let reads = "(if (and (and (kind 0 Obj) (class 1)) (key 1 \"x\")) (read 0) update)";
+    wants(&rt, alloc, &["x"], "get at", "", &["object", "x"], reads)?;
+    let character = "(if (and (kind 0 Text) (kind 1 Int)) (char 0 1) update)";
+    wants(&rt, alloc, &[], "get at", "", &["ab", "7"], character)?;
+    let appends = "(if (and (and (kind 0 Obj) (class 1)) (key 1 \"y\")) (append 2 2) update)";
+    wants(
+        &rt,
+        alloc,
+        &["x"],
+        "set at",
+        "",
+        &["object", "y", "7"],
+        appends,
+    )?;
+    let no_index = "(if (and (kind 0 Obj) (kind 1 Int)) (throw NoIndex) update)";
+    wants(
+        &rt,
+        alloc,
+        &["x"],
+        "delete at",
+        "",
+        &["object", "7"],
+        no_index,
+    )
+}
+
+#[test]
+fn rules_of_calls(rt: HostRuntime) -> Result<(), Fail> {
+    let alloc = rt.alloc();
+    let calls = "(if (and (kind 0 Fun) (fun 0 0)) (call 0) update)";
+    wants(&rt, alloc, &[], "call", "", &["f", "7", "7"], calls)?;
+    let wrong_count = "(if (and (kind 0 Fun) (fun 0 0)) (throw WrongCount 2 1) update)";
+    wants(&rt, alloc, &[], "call", "", &["f", "7"], wrong_count)?;
+    let makes = "(if (and (kind 0 Fun) (fun 0 1)) (make 1) update)";
+    wants(&rt, alloc, &[], "new", "", &["g"], makes)?;
+    let not_creatable = "(if (kind 0 Int) (throw NotCreatable Int) update)";
+    wants(&rt, alloc, &[], "new", "", &["7"], not_creatable)
+}
+
+#[test]
+fn rules_of_values(rt: HostRuntime) -> Result<(), Fail> {
+    let alloc = rt.alloc();
+    let converts = "(if (kind 0 Text) (convert Int 0) update)";
+    wants(&rt, alloc, &[], "int", "", &["ab"], converts)?;
+    let negates = "(if (kind 0 Int) (Negate 0) update)";
+    wants(&rt, alloc, &[], "negate", "", &["7"], negates)?;
+    let adds = "(if (and (kind 0 Int) (kind 1 Int)) (Add 0 1) update)";
+    wants(&rt, alloc, &[], "add", "", &["7", "7"], adds)
 }
 
 /// A rule is printed behind what is there, and its parts are lent.
