@@ -1,10 +1,11 @@
 -- Operations that can be bound, and the rules that are bound for them.
-use Rattle.std.proofs.Common.{◌≡◌, ◌≢◌, ℕ, zero, suc, ◌+◌, ◌<◌, ◌≤◌, Bool, true, false, List, [], ◌∷◌, ◌++◌, length, inl, inr, Option, None, Some, Result, Ok, Err, IfOk, refl, sym, ◌∙◌, ap, subst, arith, slice_get, length-append}
+use Rattle.std.proofs.Common.{◌≡◌, ◌≢◌, ℕ, zero, suc, ◌+◌, ◌<◌, ◌≤◌, Bool, true, false, List, [], ◌∷◌, ◌++◌, length, inl, inr, Option, None, Some, Result, Ok, Err, IfOk, refl, sym, ◌∙◌, ap, subst, arith, slice_get, get_or, take, length-append}
 use Rattle.std.proofs.Math.Logic.{∥∥₁_elim}
 use Rattle.std.proofs.Props.{props}
 use Rattle.std.specs.List.{AllByRecursion, list_all}
 use Rattle.std.specs.Option.{option_map, option_and_then}
 use Rattle.std.specs.Prelude.{IsTrue, IsSome, IfSome, IsSomeAnd, is_some, not, ◌&&◌, if◌then◌else◌}
+use Rattle.std.proofs.lemmas.List.{length-take-le, take_all, take_more}
 use Rattle.std.proofs.lemmas.Option.{slice_get_within}
 use Rattle.dyn_value.specs.declared.outcome.Outcome.{Outcome}
 use Rattle.dyn_value.specs.declared.value.Kind.TheVariants as kind
@@ -342,3 +343,17 @@ fits_moved r operation old_table table old_class class after same_table same_cla
 pub arguments_proper : (functions objects : ℕ) (operation : Operation) → functions ≡ 0 → AllByRecursion (IsProperIn 0 objects) operation.operands.now → AllByRecursion (IsProperIn functions objects) operation.arguments.now
 arguments_proper functions objects operation none proper =
     subst (λ (n : ℕ). AllByRecursion (IsProperIn n objects) operation.arguments.now) (sym none) (subst (AllByRecursion (IsProperIn 0 objects)) operation.target proper).1
+
+-- one metaobject more, in a loop over the operands
+pub metas_more : (operands : List Value) (class : Option ClassRef) (metas more : List MetaObject) (number : ℕ) (v : Value) (m : MetaObject) → number < length operands → v ≡ get_or operands number v
+    → AreMetasOf (take number operands) class metas → IsMetaOf number v (lent_at number class) m → more ≡ metas ++ m ∷ [] → AreMetasOf (take (number + 1) operands) class more
+metas_more operands class metas more number v m inside at are is grown =
+    let long : length (take number operands) ≡ number = length-take-le number operands (omega (arith, inside)) in
+    let one : IsMetaOf (length (take number operands)) v (lent_at (length (take number operands)) class) m = subst (λ (k : ℕ). IsMetaOf k v (lent_at k class) m) (sym long) is in
+    subst (AreMetasOf (take (number + 1) operands) class) (sym grown)
+    (subst (λ (vs : List Value). AreMetasOf vs class (metas ++ m ∷ []))
+        (ap (λ (w : Value). take number operands ++ w ∷ []) at ∙ sym (take_more operands number v inside))
+        (metas_push (take number operands) class metas v m are one))
+
+pub all_metas : (operands : List Value) (class : Option ClassRef) (metas : List MetaObject) (number : ℕ) → length operands ≤ number → AreMetasOf (take number operands) class metas → AreMetasOf operands class metas
+all_metas operands class metas number all are = subst (λ (vs : List Value). AreMetasOf vs class metas) (take_all number operands all) are

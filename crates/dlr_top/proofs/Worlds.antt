@@ -1,11 +1,12 @@
 -- The objects of a world and their journals, from operation to operation.
-use Rattle.std.proofs.Common.{◌≡◌, ◌≢◌, ℕ, zero, suc, ◌+◌, ◌<◌, Bool, true, false, if◌then◌else◌, nat_eq, List, [], ◌∷◌, ◌++◌, length, map, get_or, slice_get, Option, Some, Result, Ok, Err, IfOk, OnErr, refl, sym, ◌∙◌, ap, subst, arith, length-append}
+use Rattle.std.proofs.Common.{◌≡◌, ◌≢◌, ℕ, zero, suc, ◌+◌, ◌<◌, Bool, true, false, if◌then◌else◌, nat_eq, List, [], ◌∷◌, ◌++◌, length, map, get_or, slice_get, Option, None, Some, Result, Ok, Err, IfOk, OnErr, refl, sym, ◌∙◌, ap, subst, arith, length-append}
 use Rattle.std.proofs.lemmas.Bool.{eqb-true}
 use Rattle.std.proofs.lemmas.Bool.Decides.{nat_tests}
 use Rattle.std.proofs.lemmas.Grind.{get_or-set_at}
 use Rattle.std.proofs.lemmas.List.{get_or-set_other}
 use Rattle.std.proofs.Math.ListN.{set}
 use Rattle.std.proofs.Math.Logic.{∥∥₁_elim}
+use Rattle.std.proofs.Props.{props}
 use Rattle.std.specs.List.{AllByRecursion, range_with_len}
 use Rattle.std.specs.Prelude.{is_ok, IsSome}
 use Rattle.dyn_value.specs.declared.entry.Entry.{Entry}
@@ -18,14 +19,17 @@ use Rattle.standard_binders.specs.declared.binder.Binder.{Binder}
 use Rattle.standard_binders.specs.Binders.{is_on_members, operand_count_of}
 use Rattle.object_model.specs.Accesses.{access_of}
 use Rattle.object_model.specs.Journals.{IsLegal}
+use Rattle.object_model.specs.Plain.{plain_step}
 use Rattle.object_model.specs.Steps.{OnObject, if_on_members, on_object}
 use Rattle.object_model.proofs.Suits.{suits}
-use Rattle.program_eval.specs.Stores.{entry_of, updated}
-use Rattle.program_eval.specs.Worlds.{AreSame, teller_of}
+use Rattle.program_eval.specs.Stores.{entry_of, no_functions, updated}
+use Rattle.program_eval.specs.Worlds.{Answers, AnswersOn, AreSame, teller_of}
 use Rattle.script_front.specs.declared.program.Program.{Program}
-use Rattle.script_front.specs.Programs.{binders_of, sites_of}
+use Rattle.script_front.specs.Programs.{binders_of, script_of, sites_of}
+use Rattle.script_front.specs.Sites.{site_binders}
 use Rattle.dlr_top.specs.declared.run.object_row.EntryHead.{EntryHead}
 use Rattle.dlr_top.specs.declared.run.object_row.ObjectRow.{ObjectRow}
+use Rattle.dlr_top.specs.declared.run.object_row.RowTag.{RowTag}
 use Rattle.dlr_top.specs.Lawful.{journal_at, limit_of}
 use Rattle.dlr_top.specs.RowProps.{legal_prop}
 use Rattle.dlr_top.specs.Rows.{AreRowsOf, IsRowOf, entry_by, journal_of, journals_in, table_of, tag_of}
@@ -97,9 +101,9 @@ row_at program table rows i row inside at are = all_at (IsRowOf program table) r
 
 row_kept : (program : Program) (table : ClassTable) (old new : ObjectRow) → tag_of new ≡ tag_of old → table_of new ≡ table_of old → IsRowOf program table old → IsRowOf program table new
 row_kept program table old new tag tables is = record {
-  binders = ap (λ t. t.binders.now) tag ∙ is.binders;
-  functions = ap (λ t. t.functions) tag ∙ is.functions;
-  limit = ap (λ t. t.limit) tag ∙ is.limit;
+  binders = ap (λ (t : RowTag). t.binders.now) tag ∙ is.binders;
+  functions = ap (λ (t : RowTag). t.functions) tag ∙ is.functions;
+  limit = ap (λ (t : RowTag). t.limit) tag ∙ is.limit;
   own = tables ∙ is.own;
 }
 
@@ -183,3 +187,58 @@ pub numbers_after : {E : Type 0} (first : ℕ) (old new : List ℕ) (n : ℕ) (r
     → new ≡ (if is_ok r then old ++ n ∷ [] else old) → new ≡ range_with_len first (length new)
 numbers_after first old new n (Ok _) are is grown = one_more_number first old new n are is grown
 numbers_after first old new n (Err _) are is same = subst (λ ns. ns ≡ range_with_len first (length ns)) (sym same) are
+
+-- what is known of an object of a world
+
+tables_prop : (a b : ClassTable) → IsProp (a ≡ b)
+tables_prop a b = hlevel props
+
+numbers_prop : (a b : ℕ) → IsProp (a ≡ b)
+numbers_prop a b = hlevel props
+
+binder_prop : (a b : Option Binder) → IsProp (a ≡ b)
+binder_prop a b = hlevel props
+
+pub row_own : (program : Program) (table : ClassTable) (rows : List ObjectRow) (i : ℕ) (row : ObjectRow) → i < length rows → row ≡ get_or rows i row → ∥ AreRowsOf program table rows ∥₁ → table_of row ≡ table
+row_own program table rows i row inside at alike = ∥∥₁_elim alike (tables_prop (table_of row) table) (λ are. (row_at program table rows i row inside at are).own)
+
+pub row_functions : (program : Program) (table : ClassTable) (rows : List ObjectRow) (i : ℕ) (row : ObjectRow) → i < length rows → row ≡ get_or rows i row → ∥ AreRowsOf program table rows ∥₁ → (tag_of row).functions ≡ 0
+row_functions program table rows i row inside at alike = ∥∥₁_elim alike (numbers_prop (tag_of row).functions 0) (λ are. (row_at program table rows i row inside at are).functions)
+
+pub row_limit : (program : Program) (table : ClassTable) (rows : List ObjectRow) (i : ℕ) (row : ObjectRow) → i < length rows → row ≡ get_or rows i row → ∥ AreRowsOf program table rows ∥₁ → (tag_of row).limit ≡ limit_of program
+row_limit program table rows i row inside at alike = ∥∥₁_elim alike (numbers_prop (tag_of row).limit (limit_of program)) (λ are. (row_at program table rows i row inside at are).limit)
+
+pub row_binder : (program : Program) (table : ClassTable) (rows : List ObjectRow) (i : ℕ) (row : ObjectRow) (number : ℕ) (b : Binder) → i < length rows → row ≡ get_or rows i row → ∥ AreRowsOf program table rows ∥₁
+    → slice_get (binders_of program) number ≡ Some b → slice_get (tag_of row).binders.now number ≡ Some b
+row_binder program table rows i row number b inside at alike is =
+    ∥∥₁_elim alike (binder_prop (slice_get (tag_of row).binders.now number) (Some b))
+    (λ are. ap (λ (bs : List Binder). slice_get bs number) (row_at program table rows i row inside at are).binders ∙ is)
+
+some_binder : (a b : Binder) → Some a ≡ Some b → a ≡ b
+some_binder a b is = cc
+
+-- an operation on an object is answered by its entry
+pub answers_on : (program : Program) (task site : ℕ) (rows : List ObjectRow) (i : ℕ) (old new : ObjectRow) (head : EntryHead) (operands arguments : List Value) (binder b : Binder) (o : Outcome)
+    → i < length rows → old ≡ get_or rows i old → journal_of new ≡ journal_of old ++ entry_by head arguments o ∷ []
+    → entry_by head arguments o ≡ entry_of (teller_of program 0 task) (get_or (sites_of program) site 0) (record { object = i; operands = arguments }) o
+    → on_object binder operands ≡ Some (record { object = i; operands = arguments })
+    → slice_get (site_binders (script_of program)) site ≡ Some binder → slice_get (site_binders (script_of program)) site ≡ Some b
+    → Answers program 0 task site b operands o (journals_in rows) (journals_in (set rows i new))
+answers_on program task site rows i old new head operands arguments binder b o inside at grown entry on is at_site =
+    let base = journals_grow program task site rows i old new head arguments o inside at grown entry in
+    let here : Answers program 0 task site binder operands o (journals_in rows) (journals_in (set rows i new)) =
+    subst (λ (x : Option OnObject). AnswersOn x program 0 task site binder operands o (journals_in rows) (journals_in (set rows i new))) (sym on) base in
+    subst (λ (x : Binder). Answers program 0 task site x operands o (journals_in rows) (journals_in (set rows i new))) (some_binder binder b (sym is ∙ at_site)) here
+
+-- and one that looks at no object by what its operands determine
+pub answers_none : (program : Program) (task site : ℕ) (rows : List ObjectRow) (operands : List Value) (binder b : Binder) (o : Outcome) → o ≡ plain_step no_functions binder operands
+    → on_object binder operands ≡ None → slice_get (site_binders (script_of program)) site ≡ Some binder → slice_get (site_binders (script_of program)) site ≡ Some b
+    → Answers program 0 task site b operands o (journals_in rows) (journals_in rows)
+answers_none program task site rows operands binder b o plain none is at_site =
+    let here : Answers program 0 task site binder operands o (journals_in rows) (journals_in rows) =
+    subst (λ (x : Option OnObject). AnswersOn x program 0 task site binder operands o (journals_in rows) (journals_in rows)) (sym none) (plain, λ object. refl) in
+    subst (λ (x : Binder). Answers program 0 task site x operands o (journals_in rows) (journals_in rows)) (some_binder binder b (sym is ∙ at_site)) here
+
+pub on_err : {T E P Q : Type 0} (r : Result T E) → (P → Q) → OnErr r P → OnErr r Q
+on_err (Ok x) f p = tt
+on_err (Err e) f p = f p

@@ -1,7 +1,7 @@
 use Rattle.std.proofs.Common.{◌≡◌, ◌∙◌, ◌∷◌, ◌++◌, [], List, ℕ, length, sym, ap, refl, subst, arith}
 use Rattle.std.specs.List.{range_with_len}
 use Rattle.script_front.specs.Programs.{script_of}
-use Rattle.dlr_top.specs.Rows.{table_of, tag_of}
+use Rattle.dlr_top.specs.declared.run.object_row.RowTag.{RowTag}
 use Rattle.dlr_top.proofs.Worlds.{none_new, one_more_new}
 use Rattle.dlr_top.proofs.run.rule_world.RuleWorld.new.Goals as goal
 
@@ -10,15 +10,15 @@ loop-init c = none_new c.args.program.now c.in_ok-binding.binding.table c.in_ok-
 
 pub loop-preserved : goal.loop-preserved
 loop-preserved c =
-    let tag = c.new.ensures.tag in
-    one_more_new c.args.program.now c.in_ok-binding.binding.table c.loop.counter c.loop.objects.items c.push.new.self.items c.new.result c.loop.invariant c.in_ok-push.ensures.items
+    let tag = c.new-2.ensures.tag in
+    one_more_new c.args.program.now c.in_ok-binding.binding.table c.loop.counter c.loop.objects.items c.push.new.self.items c.new-2.result c.loop.invariant c.in_ok-push.ensures.items
     (record {
-      binders = ap (λ t. t.binders.now) tag ∙ c.binders.ensures;
-      functions = ap (λ t. t.functions) tag;
-      limit = ap (λ t. t.limit) tag ∙ omega (arith, ap length c.shared.ensures.shared);
-      own = c.new.ensures.table ∙ c.table.ensures;
+      binders = ap (λ (t : RowTag). t.binders.now) tag ∙ c.binders.ensures;
+      functions = ap (λ (t : RowTag). t.functions) tag;
+      limit = ap (λ (t : RowTag). t.limit) tag ∙ omega (arith, ap length c.shared.ensures.shared);
+      own = c.new-2.ensures.table ∙ c.table.ensures;
     })
-    c.new.ensures.journal
+    c.new-2.ensures.journal
 
 pub invariant_of-result : goal.invariant_of-result
 invariant_of-result c =
@@ -27,5 +27,5 @@ invariant_of-result c =
     record {
       all = omega (arith, c.loop.invariant.count_is, shared, c.loop-test.false, c.loop.auto.counter-end);
       alike = ∣ c.loop.invariant.rows_are ∣₁;
-      numbers = subst (λ (ns : List ℕ). ns ≡ range_with_len first (length ns)) (sym c.new-drawn.ensures.items) refl;
+      numbers = subst (λ (ns : List ℕ). ns ≡ range_with_len first (length ns)) (sym c.new-3.ensures.items) refl;
     }
