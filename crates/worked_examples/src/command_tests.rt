@@ -162,14 +162,10 @@ fn scripts_that_break_a_rule(rt: HostRuntime) -> Result<(), Fail> {
 #[test]
 fn journals(rt: HostRuntime) -> Result<(), Fail> {
     for example in JOURNALS {
-        let ran = run(&rt, rt.alloc(), example.words, example.script.as_bytes())?;
-        assert_eq!(rt;
-            ran.written.as_slice(),
-            example.text.as_bytes(),
-            "{}",
-            example.script
-        );
-        assert_eq!(rt; ran.status, example.status, "{}", example.script);
+        let script = example.script;
+        let ran = run(&rt, rt.alloc(), example.words, script.as_bytes())?;
+        assert_eq!(rt; ran.written.as_slice(), example.text.as_bytes(), "{script}");
+        assert_eq!(rt; ran.status, example.status, "{script}");
     }
     Ok(())
 }
