@@ -6,7 +6,8 @@ ghost use Rattle.expando_class.specs.Pass.{IsPassOf};
 ghost use Rattle.meta_object.specs.Metas.{IsLendable};
 ghost use Rattle.meta_object.specs.Operands.{AreMetasOf, lent_at};
 ghost use Rattle.standard_binders.specs.Binders.{operand_count_of};
-ghost use Rattle.dlr_top.specs.Bindings.{HasProperContent};
+ghost use Rattle.meta_object.specs.Contexts.{KeepsContext};
+ghost use Rattle.dlr_top.specs.Bindings.{HasProperContent, IsBindable, IsRuleFor};
 ghost use Rattle.dlr_top.specs.RowProps.{pass_prop};
 
 use dyn_value::{Outcome, Value};
@@ -84,27 +85,19 @@ impl Binding {
         ensures rule { IfOk result (IsRuleFor self.new.pass binder.now operands.now (option_copied class.entry)) }
         ensures table { self.new.table ≡ self.old.table }
     {
-        show_few_operands(binder);
-        let metas = metas_of(alloc, operands, class)?;
-        metaobjects_describe_their_operands();
-        operations_are_bound_by_their_metaobjects();
-        let mut binds = Binds { count: 0 };
         let mut cx = BindContext {
             table: &self.table,
             pass: &mut self.pass,
         };
-        let rule = bind(
-            alloc,
+        bind_in(
             rt,
-            &mut binds,
+            alloc,
             &self.language,
             &mut cx,
             binder,
-            metas.as_slice(),
-        )?;
-        // It is sound.
-        rule.claim();
-        Ok(rule)
+            operands,
+            class,
+        )
     }
 
     /// The class after that a claim names, where it is known.
@@ -138,6 +131,41 @@ impl Binding {
         show_proper_content(&outcome);
         Ok(outcome)
     }
+}
+
+/// A rule for the operation on these operands, of a language without functions.
+fn bind_in<R: Wait>(
+    rt: &R,
+    alloc: Global,
+    language: &Script,
+    cx: &mut BindContext,
+    binder: &Binder,
+    operands: &[Value],
+    class: Option<&ClassRef>,
+) -> Result<Rule, AllocError>
+    requires empty { language.now.functions.params ≡ [] }
+    requires own { IsPassOf cx.old.table.now cx.old.pass.now }
+    requires bindable { IsBindable cx.old.table.now binder.now operands.now (option_copied class) }
+    ensures rule { IfOk result (IsRuleFor cx.new.pass.now binder.now operands.now (option_copied class.entry)) }
+    ensures context { KeepsContext cx.old cx.new }
+{
+    show_few_operands(binder);
+    let metas = metas_of(alloc, operands, class)?;
+    metaobjects_describe_their_operands();
+    operations_are_bound_by_their_metaobjects();
+    let mut binds = Binds { count: 0 };
+    let rule = bind(
+        alloc,
+        rt,
+        &mut binds,
+        language,
+        cx,
+        binder,
+        metas.as_slice(),
+    )?;
+    // It is sound.
+    rule.claim();
+    Ok(rule)
 }
 
 /// The metaobjects of the operands; the class is lent to the first.

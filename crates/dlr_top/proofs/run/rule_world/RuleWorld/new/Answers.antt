@@ -10,15 +10,15 @@ loop-init c = none_new c.args.program.now c.in_ok-binding.binding.table c.in_ok-
 
 pub loop-preserved : goal.loop-preserved
 loop-preserved c =
-    let tag = c.new-2.ensures.tag in
-    one_more_new c.args.program.now c.in_ok-binding.binding.table c.loop.counter c.loop.objects.items c.push.new.self.items c.new-2.result c.loop.invariant c.in_ok-push.ensures.items
+    let tag = c.new-in-loop.ensures.tag in
+    one_more_new c.args.program.now c.in_ok-binding.binding.table c.loop.counter c.loop.objects.items c.push.new.self.items c.new-in-loop.result c.loop.invariant c.in_ok-push.ensures.items
     (record {
       binders = ap (λ (t : RowTag). t.binders.now) tag ∙ c.binders.ensures;
       functions = ap (λ (t : RowTag). t.functions) tag;
       limit = ap (λ (t : RowTag). t.limit) tag ∙ omega (arith, ap length c.shared.ensures.shared);
-      own = c.new-2.ensures.table ∙ c.table.ensures;
+      own = c.new-in-loop.ensures.table ∙ c.table.ensures;
     })
-    c.new-2.ensures.journal
+    c.new-in-loop.ensures.journal
 
 pub invariant_of-result : goal.invariant_of-result
 invariant_of-result c =
@@ -27,5 +27,5 @@ invariant_of-result c =
     record {
       all = omega (arith, c.loop.invariant.count_is, shared, c.loop-test.false, c.loop.auto.counter-end);
       alike = ∣ c.loop.invariant.rows_are ∣₁;
-      numbers = subst (λ (ns : List ℕ). ns ≡ range_with_len first (length ns)) (sym c.new-3.ensures.items) refl;
+      numbers = subst (λ (ns : List ℕ). ns ≡ range_with_len first (length ns)) (sym c.new-2.ensures.items) refl;
     }
