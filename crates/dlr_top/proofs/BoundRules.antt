@@ -155,7 +155,7 @@ metas_push operands class metas v m are is = record {
       | inl given ↦ let inside = slice_get_within operands i w given in absurd (omega (arith, inside, new.0, are.count))
       | inr last ↦ subst (λ (k : ℕ). IsMetaOf k w (lent_at k class) n) (sym last.0)
           (subst (λ (x : Value). IsMetaOf (length operands) x (lent_at (length operands) class) n) last.1
-            (subst (λ (y : MetaObject). IsMetaOf (length operands) v (lent_at (length operands) class) y) new.1 is))
+          (subst (λ (y : MetaObject). IsMetaOf (length operands) v (lent_at (length operands) class) y) new.1 is))
     ]
   ];
 }
@@ -352,8 +352,8 @@ metas_more operands class metas more number v m inside at are is grown =
     let one : IsMetaOf (length (take number operands)) v (lent_at (length (take number operands)) class) m = subst (λ (k : ℕ). IsMetaOf k v (lent_at k class) m) (sym long) is in
     subst (AreMetasOf (take (number + 1) operands) class) (sym grown)
     (subst (λ (vs : List Value). AreMetasOf vs class (metas ++ m ∷ []))
-        (ap (λ (w : Value). take number operands ++ w ∷ []) at ∙ sym (take_more operands number v inside))
-        (metas_push (take number operands) class metas v m are one))
+    (ap (λ (w : Value). take number operands ++ w ∷ []) at ∙ sym (take_more operands number v inside))
+    (metas_push (take number operands) class metas v m are one))
 
 pub all_metas : (operands : List Value) (class : Option ClassRef) (metas : List MetaObject) (number : ℕ) → length operands ≤ number → AreMetasOf (take number operands) class metas → AreMetasOf operands class metas
 all_metas operands class metas number all are = subst (λ (vs : List Value). AreMetasOf vs class metas) (take_all number operands all) are

@@ -141,7 +141,7 @@ outcome_of_step r operation row after o fits answers =
     let access = some_access (access_of (binder_of r) operation.arguments.now) fits.suits in
     ∥∥₁_elim fits.sound (outcome_prop (outcome_by (object_step ms (binder_of r) operation.arguments.now)) (Some o))
     (λ sound. ap outcome_by (step_is ms (binder_of r) operation.arguments.now access.0 access.1)
-        ∙ ap (λ (x : Outcome). Some x) (sym (does_of r operation row after access.0 fits access.1 sound).outcome ∙ sym answers))
+    ∙ ap (λ (x : Outcome). Some x) (sym (does_of r operation row after access.0 fits access.1 sound).outcome ∙ sym answers))
 
 -- and leaves the members of the step
 members_of_step : (r : Rule) (operation : Operation) (row : ObjectRow) (after : Option ClassRef) → FitsOn r operation row after
@@ -152,7 +152,7 @@ members_of_step r operation row after fits =
     let access = some_access (access_of (binder_of r) operation.arguments.now) fits.suits in
     ∥∥₁_elim fits.sound (has_prop left (left_by ms (object_step ms (binder_of r) operation.arguments.now)))
     (λ sound. subst (HasMembers left) (sym (ap (left_by ms) (step_is ms (binder_of r) operation.arguments.now access.0 access.1)))
-        (does_of r operation row after access.0 fits access.1 sound).state)
+    (does_of r operation row after access.0 fits access.1 sound).state)
 
 -- the step of the entry that is added
 entry_step_is : (binders : List Binder) (ms : Members) (head : EntryHead) (b : Binder) (arguments : List Value) (o : Outcome) → slice_get binders head.binder ≡ Some b
@@ -175,7 +175,7 @@ legal_of row r operation after o s journal c =
     let e = entry_by operation.head operation.arguments.now o in
     subst (IsLegal bs []) (sym c.grown)
     (legal_push bs [] (journal_of row) e row.legal
-        (ap outcome_by (entry_step_is bs (members_in row) operation.head (binder_of r) operation.arguments.now o c.number) ∙ outcome_of_step r operation row after o c.fits c.answers))
+    (ap outcome_by (entry_step_is bs (members_in row) operation.head (binder_of r) operation.arguments.now o c.number) ∙ outcome_of_step r operation row after o c.fits c.answers))
 
 -- the members after the journal that has grown
 members_grown : (row : ObjectRow) (r : Rule) (operation : Operation) (after : Option ClassRef) (o : Outcome) (s : State) (journal : List Entry) → Committed row r operation after o s journal

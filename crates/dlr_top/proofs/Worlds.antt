@@ -94,7 +94,7 @@ pub journals_grow : (program : Program) (task site : ℕ) (rows : List ObjectRow
 journals_grow program task site rows i old new head arguments o inside at grown entry = λ object.
     journals_set rows i new object inside
     ∙ ap (λ (j : List Entry). updated (journals_in rows) i j object)
-        (grown ∙ ap (λ (j : List Entry). j ++ entry_by head arguments o ∷ []) (sym (journal_here rows i old inside at)) ∙ ap (λ (e : Entry). journals_in rows i ++ e ∷ []) entry)
+    (grown ∙ ap (λ (j : List Entry). j ++ entry_by head arguments o ∷ []) (sym (journal_here rows i old inside at)) ∙ ap (λ (e : Entry). journals_in rows i ++ e ∷ []) entry)
 
 pub row_at : (program : Program) (table : ClassTable) (rows : List ObjectRow) (i : ℕ) (row : ObjectRow) → i < length rows → row ≡ get_or rows i row → AreRowsOf program table rows → IsRowOf program table row
 row_at program table rows i row inside at are = all_at (IsRowOf program table) rows i row inside at are

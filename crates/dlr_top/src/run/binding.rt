@@ -89,15 +89,7 @@ impl Binding {
             table: &self.table,
             pass: &mut self.pass,
         };
-        bind_in(
-            rt,
-            alloc,
-            &self.language,
-            &mut cx,
-            binder,
-            operands,
-            class,
-        )
+        bind_in(rt, alloc, &self.language, &mut cx, binder, operands, class)
     }
 
     /// The class after that a claim names, where it is known.

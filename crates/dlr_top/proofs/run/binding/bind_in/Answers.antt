@@ -11,7 +11,7 @@ bind-requires-clause-can g c =
     let functions = c.args.language.now.functions.params in let class = option_copied c.args.class in let table = c.args.cx.now.table.now in let pass = c.args.cx.now.pass.now in
     subst (λ (metas : List MetaObject). CanBind functions table pass c.args.binder.now metas) (sym c.as_slice.ensures.value)
     (c.operations_are_bound_by_their_metaobjects.ensures functions table pass c.args.binder.now c.args.operands.now class c.in_ok-metas.metas.items c.requires.bindable.number c.in_ok-metas.ensures c.requires.bindable.lent
-        (can_be_bound functions table pass c.args.binder.now c.args.operands.now class c.requires.own c.requires.bindable))
+    (can_be_bound functions table pass c.args.binder.now c.args.operands.now class c.requires.own c.requires.bindable))
 
 pub returns-clause-rule : goal.returns-clause-rule
 returns-clause-rule g c =

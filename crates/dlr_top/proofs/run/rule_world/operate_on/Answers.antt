@@ -31,8 +31,8 @@ prepare-requires g c =
     let number = subst (λ (k : Claim). IfSome after (λ shown. class_after k ≡ Some (number_of shown))) c.claim.ensures.claim c.class_after-after.ensures.number in
     let own = subst (λ (t : ClassTable). IfSome after (IsClassOf t)) (c.in_ok-rule.ensures.table ∙ sym c.requires.own) c.class_after-after.ensures.of in
     let fits : FitsOn r operation row after = fits_moved r operation (table_of row) (table_of row) c.class.result.now (class_in (state_in row)) after (λ _. table_of row) (sym c.class.ensures.class)
-        (fits_of pass (table_of row) b operation c.class.result.now after r c.in_ok-rule.ensures.rule c.requires.on
-            (target_suits b operation.operands.now (record { object = operation.object; operands = operation.arguments.now }) c.requires.on c.requires.suit) names number own) in
+    (fits_of pass (table_of row) b operation c.class.result.now after r c.in_ok-rule.ensures.rule c.requires.on
+    (target_suits b operation.operands.now (record { object = operation.object; operands = operation.arguments.now }) c.requires.on c.requires.suit) names number own) in
     record { there = subst (λ (body : List Node). IsThere operation.operands.now (values_in (state_in row)) (root body)) (sym c.body.ensures) (there_of r operation row after fits) }
 
 pub commit-requires-clause-fits : goal.commit-requires-clause-fits
@@ -42,8 +42,8 @@ commit-requires-clause-fits g c =
     let number = subst (λ (k : Claim). IfSome after (λ shown. class_after k ≡ Some (number_of shown))) c.claim.ensures.claim c.class_after-after.ensures.number in
     let own = subst (λ (t : ClassTable). IfSome after (IsClassOf t)) (c.in_ok-rule.ensures.table ∙ sym c.requires.own) c.class_after-after.ensures.of in
     fits_moved r operation (table_of row) (table_of c.prepare.new.self) c.class.result.now (class_in (state_in c.prepare.new.self)) after c.prepare.ensures.table (c.prepare.ensures.class ∙ sym c.class.ensures.class)
-        (fits_of pass (table_of row) b operation c.class.result.now after r c.in_ok-rule.ensures.rule c.requires.on
-            (target_suits b operation.operands.now (record { object = operation.object; operands = operation.arguments.now }) c.requires.on c.requires.suit) names number own)
+    (fits_of pass (table_of row) b operation c.class.result.now after r c.in_ok-rule.ensures.rule c.requires.on
+    (target_suits b operation.operands.now (record { object = operation.object; operands = operation.arguments.now }) c.requires.on c.requires.suit) names number own)
 
 pub commit-requires-clause-proper : goal.commit-requires-clause-proper
 commit-requires-clause-proper g c =

@@ -61,10 +61,10 @@ returns-in-Some-clause-answers g c =
     let entry : List ℕ → Outcome → Entry = λ numbers o. record { pass = 0; task = world.task; binder = get_or numbers c.args.site 0; operands = arguments; outcome = o } in
     if_ok c.operate_on.result
     (λ o grown b at. answers_on world.program.now world.task c.args.site world.objects.items i c.index_mut.result.now c.operate_on.new.row
-        (record { pass = 0; task = world.task; binder = get_or c.sites.result.now c.args.site 0 }) c.args.operands.now arguments c.binder_of-binder.result.now b o
-        (subst (λ n. i < n) (sym world.all) target.0) c.index_mut.ensures.value grown
-        (ap (λ (numbers : List ℕ). entry numbers o) c.sites.ensures.sites)
-        c.in-Some.ensures c.binder_of-binder.ensures.binder at)
+    (record { pass = 0; task = world.task; binder = get_or c.sites.result.now c.args.site 0 }) c.args.operands.now arguments c.binder_of-binder.result.now b o
+    (subst (λ n. i < n) (sym world.all) target.0) c.index_mut.ensures.value grown
+    (ap (λ (numbers : List ℕ). entry numbers o) c.sites.ensures.sites)
+    c.in-Some.ensures c.binder_of-binder.ensures.binder at)
     c.operate_on.ensures.journal
 
 pub returns-in-Some-clause-answer : goal.returns-in-Some-clause-answer
