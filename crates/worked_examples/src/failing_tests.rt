@@ -180,11 +180,11 @@ fn each_read_failing_in_turn_gives_status_4_and_nothing_written(
     rt: HostRuntime,
 ) -> Result<(), Fail> {
     for example in JOURNALS {
-        for piece in [1, 8, WHOLE] {
+        for piece in [8, WHOLE] {
             fail_each_read(&rt, rt.alloc(), example, piece)?;
         }
     }
-    Ok(())
+    fail_each_read(&rt, rt.alloc(), JOURNALS[2], 1)
 }
 
 #[test]
@@ -192,11 +192,11 @@ fn each_write_failing_in_turn_gives_status_5_and_the_pieces_before(
     rt: HostRuntime,
 ) -> Result<(), Fail> {
     for example in JOURNALS {
-        for piece in [1, 7, WHOLE] {
+        for piece in [7, WHOLE] {
             fail_each_write(&rt, rt.alloc(), example, piece, SINK_FAILED)?;
         }
     }
-    Ok(())
+    fail_each_write(&rt, rt.alloc(), JOURNALS[2], 1, SINK_FAILED)
 }
 
 #[test]
