@@ -1,9 +1,7 @@
-ghost use Rattle.expando_class.specs.Pass.{IsPassOf};
-
 use super::operations::{binder, operands, rule_for};
 use super::{class_of, functions};
 use crate::{Binds, Rule};
-use expando_class::{ClassPass, ClassTable};
+use expando_class::ClassTable;
 use fallback::Script;
 use meta_object::BindContext;
 use std::alloc::Global;
@@ -178,37 +176,29 @@ fn a_rule_is_appended(rt: HostRuntime) -> Result<(), Fail> {
 #[test]
 fn a_hundred_rules(rt: HostRuntime) -> Result<(), Fail> {
     let alloc = rt.alloc();
-    let table = ClassTable::new(alloc)?;
-    let mut pass = table.pass(alloc)?;
-    let language = language(alloc)?;
     let mut binds = Binds { count: 0 };
     for number in 0..100u32 {
-        bind_set(&rt, alloc, &language, &mut binds, &table, &mut pass, number)?;
+        bind_set(&rt, alloc, &mut binds, number)?;
     }
     assert_eq!(rt; binds.count, 100);
     Ok(())
 }
 
 /// Binds a set of the member of this number, of an object without members.
-fn bind_set(
-    rt: &impl Wait,
-    alloc: Global,
-    language: &Script,
-    binds: &mut Binds,
-    table: &ClassTable,
-    pass: &mut ClassPass,
-    number: u32,
-) -> Result<(), Fail>
-    requires { IsPassOf table.now pass.old }
-    ensures { IsPassOf table.now pass.new }
-{
+fn bind_set(rt: &impl Wait, alloc: Global, binds: &mut Binds, number: u32) -> Result<(), Fail> {
+    let table = ClassTable::new(alloc)?;
+    let mut pass = table.pass(alloc)?;
+    let class = table.root();
     let name = format!(in alloc; "m{number}")?;
     let binder = binder(alloc, "set", name.as_str(), 1)?;
     let operands = operands(alloc, &["object", "7"])?;
-    let class = table.root();
-    let mut cx = BindContext { table, pass };
+    let language = language(alloc)?;
+    let mut cx = BindContext {
+        table: &table,
+        pass: &mut pass,
+    };
     rule_for(
-        rt, alloc, language, binds, &mut cx, &class, &binder, &operands,
+        rt, alloc, &language, binds, &mut cx, &class, &binder, &operands,
     )?;
     Ok(())
 }
