@@ -1,0 +1,23 @@
+use Rattle.script_grammar.specs.StatementForms.{declaration_form}
+use Rattle.script_grammar.proofs.Exits.{exits}
+use Rattle.script_grammar.proofs.ItemRules.{function_name_halts, params_halts, function_body_halts, function_read}
+use Rattle.script_grammar.proofs.parser.items.function_at.Goals as goal
+
+pub returns-in_err-name-clause-stop : goal.returns-in_err-name-clause-stop
+returns-in_err-name-clause-stop c =
+    exits declaration_form _ _ c.in_err-name.field-0.0 c.from_residual.ensures.1
+    (function_name_halts _ _ c.in_err-name.ensures.stop)
+
+pub returns-in_err-params-clause-stop : goal.returns-in_err-params-clause-stop
+returns-in_err-params-clause-stop c =
+    exits declaration_form _ _ c.in_err-params.field-0.0 c.from_residual-in_err-params.ensures.1
+    (params_halts _ c.in_ok-name.ensures.read c.in_err-params.ensures.stop)
+
+pub returns-in_err-body-clause-stop : goal.returns-in_err-body-clause-stop
+returns-in_err-body-clause-stop c =
+    exits declaration_form _ _ c.in_err-body.field-0.0 c.from_residual-in_err-body.ensures.1
+    (function_body_halts _ c.in_ok-name.ensures.read c.in_ok-params.ensures.read c.in_err-body.ensures.stop)
+
+pub returns-clause-read : goal.returns-clause-read
+returns-clause-read c =
+    function_read c.in_ok-name.ensures.read c.in_ok-params.ensures.read c.in_ok-body.ensures.read

@@ -1,0 +1,9 @@
+pub mod ExpressionForms
+pub mod Forms
+pub mod Halts
+pub mod OperatorSymbols
+pub mod Refusals
+pub mod Spelling
+pub mod StatementForms
+pub mod Written
+pub mod WrittenStatements
