@@ -1,0 +1,12 @@
+mod ArgumentSites
+mod BinderCounts
+mod CallRules
+mod Judged
+mod Lists
+mod LocalCounts
+mod Numbers
+mod Rows
+mod SiteEquations
+mod Starts
+mod Turns
+mod Walks
