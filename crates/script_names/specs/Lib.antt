@@ -1,0 +1,4 @@
+pub mod Names
+pub mod Statements
+pub mod Expressions
+pub mod Scripts
