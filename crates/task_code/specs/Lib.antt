@@ -1,0 +1,4 @@
+pub mod Acts
+pub mod Codes
+pub mod Costs
+pub mod Fits
