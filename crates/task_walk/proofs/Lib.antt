@@ -1,0 +1,13 @@
+pub mod Comings
+pub mod Walkings
+pub mod Puts
+pub mod Asking
+pub mod Forms
+pub mod Goings
+pub mod Placing
+pub mod FaultTexts
+pub mod Nodes
+pub mod Loops
+pub mod Calling
+pub mod Rounds
+pub mod Trying

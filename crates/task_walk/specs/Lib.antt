@@ -1,0 +1,6 @@
+pub mod Tales
+pub mod Comings
+pub mod Plans
+pub mod Parts
+pub mod Walks
+pub mod Goings
