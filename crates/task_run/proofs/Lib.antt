@@ -1,0 +1,3 @@
+pub mod EventRuns
+mod Examples
+pub mod TwoStores
