@@ -1,0 +1,7 @@
+use Rattle.task_compile.proofs.TargetCases.{delete_index_case}
+use Rattle.task_compile.proofs.members.compile_delete_index.Goals as goal
+
+pub returns-clause-code : goal.returns-clause-code
+returns-clause-code c =
+    delete_index_case c.args.scope.now.items c.args.scope.now.locals c.args.site.now c.in_ok-number.number c.compile_expr.new.site c.new_site.new.site c.args.target.now c.args.key.now c.in_ok-target.target c.in_ok-key.key
+    c.in_ok-number.ensures.number c.in_ok-number.ensures.next c.in_ok-target.ensures.sites c.in_ok-target.ensures.code c.in_ok-key.ensures.code
