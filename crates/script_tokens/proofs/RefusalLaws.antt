@@ -7,8 +7,8 @@ use Rattle.std.proofs.lemmas.Str.{utf8_valid_len-IsValidUpTo}
 use Rattle.script_tokens.specs.declared.lexer.LexRefused.{LexRefused}
 use Rattle.script_tokens.specs.declared.lexer.LexRefused.TheVariants.{NotText, BadToken, TooDeep}
 use Rattle.script_tokens.specs.declared.token.Token.{Token}
-use Rattle.script_tokens.specs.Lexemes.{places_from}
-use Rattle.script_tokens.specs.Refusals.{AreTokensOf, IsTooDeepAt, IsRefused}
+use Rattle.script_tokens.specs.Lexemes.{places_from, AreTokensAt}
+use Rattle.script_tokens.specs.Refusals.{AreTokensOf, IsBadAt, IsTooDeepAt, IsRefused, HasNoTokens}
 use Rattle.script_tokens.proofs.RowLaws.{one_row, one_tokens, no_bad, one_bad}
 use Rattle.script_tokens.proofs.Depths.{one_depth, not_too_deep}
 
@@ -16,11 +16,18 @@ use Rattle.script_tokens.proofs.Depths.{one_depth, not_too_deep}
 no_utf8 : (bytes : List ℕ) (place : ℕ) → IsValidUpTo bytes place → IsUtf8 bytes → ⊥
 no_utf8 bytes place up text = up.longest (length bytes) up.short (subst IsUtf8 (sym (take_all (length bytes) bytes (omega arith))) text)
 
-pub one_list : (bytes : List ℕ) (ts us : List Token) (at begin : List ℕ) → AreTokensOf bytes ts at → AreTokensOf bytes us begin → (ts ≡ us) × (at ≡ begin)
-one_list bytes ts us at begin t u = (
-  one_tokens (chars bytes) ts us t.tokens.tokens u.tokens.tokens,
-  t.tokens.begin ∙ ap (places_from 0) (one_row (chars bytes) ts us t.tokens.tokens u.tokens.tokens) ∙ sym u.tokens.begin,
+pub one_list_at : (cs : List ℕ) (ts us : List Token) (at begin : List ℕ) → AreTokensAt cs ts at → AreTokensAt cs us begin → (ts ≡ us) × (at ≡ begin)
+one_list_at cs ts us at begin t u = (
+  one_tokens cs ts us t.tokens u.tokens,
+  t.begin ∙ ap (places_from 0) (one_row cs ts us t.tokens u.tokens) ∙ sym u.begin,
 )
+
+pub one_list : (bytes : List ℕ) (ts us : List Token) (at begin : List ℕ) → AreTokensOf bytes ts at → AreTokensOf bytes us begin → (ts ≡ us) × (at ≡ begin)
+one_list bytes ts us at begin t u = one_list_at (chars bytes) ts us at begin t.tokens u.tokens
+
+-- a text with a place at which no token stands has none
+pub none_at_bad : (bytes : List ℕ) (place : ℕ) → IsBadAt (chars bytes) place → HasNoTokens bytes
+none_at_bad bytes place bad ts places text t = no_bad (chars bytes) ts place t.tokens bad
 
 pub not_refused : (bytes : List ℕ) (ts : List Token) (at : List ℕ) (r : LexRefused) → AreTokensOf bytes ts at → IsRefused bytes r → ⊥
 not_refused bytes ts at (NotText place) t r = no_utf8 bytes place r t.text

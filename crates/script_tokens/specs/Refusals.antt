@@ -39,7 +39,16 @@ IsRefused bytes (BadToken place) = IsUtf8 bytes × IsBadAt (chars bytes) place
 IsRefused bytes (TooDeep number) =
     IsUtf8 bytes × ((ts : List Token) × (AreTokens (chars bytes) ts × IsTooDeepAt ts number))
 
+-- the bytes are no text of which anything is the tokens
+abbrev pub HasNoTokens : List ℕ → Type 0
+HasNoTokens bytes = (ts : List Token) (places : List ℕ) → IsUtf8 bytes → AreTokensAt (chars bytes) ts places → ⊥
+
 -- what a fault says of the bytes; want of memory says nothing
 abbrev pub Faults : List ℕ → LexFault → Type 0
 Faults bytes (fault.Refused refused) = IsRefused bytes refused
 Faults bytes fault.Memory = Unit {0}
+
+-- the fault where brackets may stand as deep as they do: the bytes are refused so, and have no tokens at all
+abbrev pub FaultsAtAnyDepth : List ℕ → LexFault → Type 0
+FaultsAtAnyDepth bytes (fault.Refused refused) = IsRefused bytes refused × HasNoTokens bytes
+FaultsAtAnyDepth bytes fault.Memory = Unit {0}

@@ -1,6 +1,7 @@
 ghost use Rattle.std.specs.Prelude.{◌≡◌, ℕ, List};
 ghost use Rattle.script_tokens.specs.declared.lexer.LexRefused.{LexRefused};
 ghost use Rattle.script_tokens.specs.declared.token.Token.{Token};
+ghost use Rattle.script_tokens.specs.Lexemes.{AreTokensAt};
 ghost use Rattle.script_tokens.specs.Refusals.{AreTokensOf, IsRefused};
 
 /// Bytes have one list of tokens at most, and each token one place. The function computes nothing; its contract is
@@ -9,6 +10,14 @@ ghost use Rattle.script_tokens.specs.Refusals.{AreTokensOf, IsRefused};
 pub fn bytes_have_one_list_of_tokens()
     ensures { (bytes : List ℕ) (ts us : List Token) (places begin : List ℕ) →
         AreTokensOf bytes ts places → AreTokensOf bytes us begin → (ts ≡ us) × (places ≡ begin) }
+{}
+
+/// A text has one list of tokens at most, and each token one place, however deep brackets stand. The function computes
+/// nothing; its contract is the fact.
+#[tactic(auto, using(crate::proofs::RefusalLaws::one_list_at))]
+pub fn characters_have_one_list_of_tokens()
+    ensures { (cs : List ℕ) (ts us : List Token) (places begin : List ℕ) →
+        AreTokensAt cs ts places → AreTokensAt cs us begin → (ts ≡ us) × (places ≡ begin) }
 {}
 
 /// Bytes that have tokens are not refused. The function computes nothing; its contract is the fact.

@@ -1,7 +1,8 @@
 ghost use Rattle.std.specs.Prelude.{◌≡◌, ◌<◌, ◌≤◌, ◌^◌, ℕ, List, length, IfOk, IfErr, IsUtf8};
 ghost use Rattle.std.specs.Str.{chars};
 ghost use Rattle.script_tokens.specs.declared.token.Token.{Token};
-ghost use Rattle.script_tokens.specs.Refusals.{AreTokensOf, Faults};
+ghost use Rattle.script_tokens.specs.Lexemes.{AreTokensAt};
+ghost use Rattle.script_tokens.specs.Refusals.{AreTokensOf, Faults, FaultsAtAnyDepth};
 
 mod characters;
 mod front;
@@ -73,12 +74,28 @@ pub fn lex(alloc: Global, bytes: &[u8]) -> Result<PlacedTokens, LexFault>
     ensures few { IfOk result (λ t. length t.tokens.items ≤ length bytes.now) }
     ensures refused { IfErr result (λ f. Faults bytes.now f) }
 {
+    let placed = placed_tokens(alloc, bytes)?;
+    match too_deep_at(placed.tokens.as_slice()) {
+        None => Ok(placed),
+        Some(number) => Err(LexFault::Refused(LexRefused::TooDeep(number as u32))),
+    }
+}
+
+/// The tokens of a script, each with the byte at which it begins, however deep its brackets stand.
+///
+/// # Errors
+///
+/// Those of [`lex`], but for [`LexRefused::TooDeep`], which does not come.
+pub fn placed_tokens(alloc: Global, bytes: &[u8]) -> Result<PlacedTokens, LexFault>
+    requires { length bytes.now < 2 ^ 32 }
+    ensures text { IfOk result (λ _. IsUtf8 bytes.now) }
+    ensures tokens { IfOk result (λ t. AreTokensAt (chars bytes.now) t.tokens.items t.places.items) }
+    ensures few { IfOk result (λ t. length t.tokens.items ≤ length bytes.now) }
+    ensures refused { IfErr result (λ f. FaultsAtAnyDepth bytes.now f) }
+{
     let characters = characters_of(alloc, bytes)?;
     match lex_characters(alloc, characters.as_slice()) {
-        Ok(placed) => match too_deep_at(placed.tokens.as_slice()) {
-            None => Ok(placed),
-            Some(number) => Err(LexFault::Refused(LexRefused::TooDeep(number as u32))),
-        },
+        Ok(placed) => Ok(placed),
         Err(Unlexed::Bad(place)) => Err(LexFault::Refused(LexRefused::BadToken(place))),
         Err(Unlexed::Memory) => Err(LexFault::Memory),
     }
@@ -90,7 +107,7 @@ fn characters_of(alloc: Global, bytes: &[u8]) -> Result<Vec<char>, LexFault>
     ensures text { IfOk result (λ _. IsUtf8 bytes.now) }
     ensures characters { IfOk result (λ cs. cs.items ≡ chars bytes.now) }
     ensures few { IfOk result (λ cs. length cs.items ≤ length bytes.now) }
-    ensures refused { IfErr result (λ f. Faults bytes.now f) }
+    ensures refused { IfErr result (λ f. FaultsAtAnyDepth bytes.now f) }
 {
     match str::from_utf8(bytes) {
         Ok(text) => Ok(text.chars().collect(alloc)?),

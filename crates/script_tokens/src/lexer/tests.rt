@@ -1,4 +1,4 @@
-use super::{LexFault, LexRefused, PlacedTokens, lex};
+use super::{LexFault, LexRefused, PlacedTokens, lex, placed_tokens};
 use crate::token::Token;
 use std::alloc::{AllocError, Global};
 use std::test::Fail;
@@ -214,5 +214,21 @@ fn refusals_in_their_order(rt: HostRuntime) -> Result<(), Fail> {
         let got = lexed(rt.alloc(), bytes.as_slice())?;
         assert_eq!(rt; got.as_str(), want);
     }
+    Ok(())
+}
+
+#[test]
+fn tokens_of_brackets_that_stand_too_deep(rt: HostRuntime) -> Result<(), Fail> {
+    let mut bytes = Vec::new(rt.alloc());
+    for _ in 0..130 {
+        bytes.extend_from_slice(b" (")?;
+    }
+    assert!(rt; bytes.len() < 1000);
+    let placed = match placed_tokens(rt.alloc(), bytes.as_slice()) {
+        Ok(placed) => placed,
+        Err(_) => return Err(Fail::from(AllocError)),
+    };
+    assert_eq!(rt; placed.tokens.len(), 130);
+    assert_eq!(rt; placed.places.last().copied(), Some(259));
     Ok(())
 }

@@ -1,0 +1,5 @@
+mod Answered
+mod Numbers
+mod Pointed
+mod Readable
+mod TokenPlaces

@@ -1,0 +1,5 @@
+pub mod Answers
+pub mod Lines
+pub mod Points
+pub mod RefusalWords
+pub mod Shown
