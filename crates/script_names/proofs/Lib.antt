@@ -3,6 +3,7 @@ mod Arguments
 mod ExpressionAgreement
 mod NewNames
 mod Parameters
+mod Places
 mod Rows
 mod ScriptAgreement
 mod StatementAgreement

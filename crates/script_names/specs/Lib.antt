@@ -1,3 +1,4 @@
+pub mod NamePlaces
 pub mod Names
 pub mod Statements
 pub mod Expressions

@@ -1,0 +1,6 @@
+mod Carried
+mod CarriedExpressions
+mod CarriedStatements
+mod Causes
+mod Numbers
+mod ShortNames
