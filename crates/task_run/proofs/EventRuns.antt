@@ -1,5 +1,5 @@
 -- What a walk did is the run over what it gained.
-use Rattle.std.proofs.Common.{◌≡◌, ℕ, ◌+◌, Bool, true, false, if◌then◌else◌, ◌&&◌, nat_eq, List, [], ◌∷◌, ◌++◌, drop, length, get_or, Option, None, Some, refl, sym, ap, ◌∙◌, subst, append_assoc, append-nil}
+use Rattle.std.proofs.Common.{◌≡◌, ℕ, Bool, true, false, if◌then◌else◌, ◌&&◌, nat_eq, List, [], ◌∷◌, ◌++◌, drop, length, Option, None, Some, refl, sym, ap, ◌∙◌, subst, append_assoc, append-nil}
 use Rattle.std.proofs.lemmas.Bool.{and_from, eqb-true}
 use Rattle.std.proofs.lemmas.Bool.Decides.{Decides-eqb, Decides-int_eq}
 use Rattle.std.proofs.lemmas.Slice.Eq.{bytes_eq-Decides}
@@ -12,12 +12,11 @@ use Rattle.standard_binders.specs.declared.binder.Binder.{Binder}
 use Rattle.object_model.specs.Plain.{plain_step}
 use Rattle.object_model.specs.Steps.{OnObject, on_object}
 use Rattle.task_code.specs.Acts.{Act, Ending, Ends, Prints, Asks, Draws}
-use Rattle.task_code.specs.Codes.{Plan}
 use Rattle.task_walk.specs.Comings.{Event, Line, Answer, Drawn, Does, Told, after, after_one, asked_in}
-use Rattle.task_walk.specs.Tales.{Asked, Suits, Tale, Teller, asked, entries_after, entry_of, tale_answered, tale_drawn, updated}
-use Rattle.task_run.specs.Deeds.{Deeds}
+use Rattle.task_walk.specs.Tales.{Asked, Teller, asked, entries_after, entry_of, updated}
+use Rattle.task_walk.specs.Deeds.{Deeds}
 use Rattle.task_run.specs.Events.{CameTo, drawn_in, entries_in, entry_on, gained, lines_in, nothing}
-use Rattle.task_run.specs.Stores.{Left, Run, after_asked, after_line, are_same, draws_on, first_answers, first_drawn, goes_on, left_objects, number_at, outcome_on, run_over}
+use Rattle.task_run.specs.Stores.{Left, Run, after_asked, are_same, draws_on, first_answers, first_drawn, goes_on, left_objects, number_at, outcome_on, run_over}
 
 same_number : (n : ℕ) → nat_eq n n ≡ true
 same_number n = (Decides-eqb n n).1 refl
@@ -123,7 +122,7 @@ does_runs by (Draws act) (Drawn n ∷ es) ending last left rest does is =
 does_runs by _ _ ending last left rest does is = absurd does
 
 -- what the events add to what a world tells and to the lines
-after_entries : (events : List Event) (m : Told) (object : ℕ) → (after events m).world.entries object ≡ m.world.entries object ++ entries_in m.world.by events object
+pub after_entries : (events : List Event) (m : Told) (object : ℕ) → (after events m).world.entries object ≡ m.world.entries object ++ entries_in m.world.by events object
 after_entries [] m object = sym (append-nil (m.world.entries object))
 after_entries (Line line ∷ es) m object = after_entries es (after_one (Line line) m) object
 after_entries (Drawn n ∷ es) m object = after_entries es (after_one (Drawn n) m) object
@@ -142,7 +141,7 @@ after_entries (Answer site b operands o ∷ es) m object =
     on_target by site None o entries object = sym (append-nil (entries object))
     on_target by site (Some x) o entries object = at_object by site x o entries object (nat_eq object x.object) refl
 
-after_drawn : (events : List Event) (m : Told) → (after events m).world.drawn ≡ m.world.drawn ++ drawn_in events
+pub after_drawn : (events : List Event) (m : Told) → (after events m).world.drawn ≡ m.world.drawn ++ drawn_in events
 after_drawn [] m = sym (append-nil m.world.drawn)
 after_drawn (Line line ∷ es) m = after_drawn es (after_one (Line line) m)
 after_drawn (Answer site b operands o ∷ es) m = after_drawn es (after_one (Answer site b operands o) m)
@@ -160,7 +159,7 @@ after_by (Line line ∷ es) m = after_by es (after_one (Line line) m)
 after_by (Answer site b operands o ∷ es) m = after_by es (after_one (Answer site b operands o) m)
 after_by (Drawn n ∷ es) m = after_by es (after_one (Drawn n) m)
 
-dropped : {A : Type 0} (xs ys : List A) → drop (length xs) (xs ++ ys) ≡ ys
+pub dropped : {A : Type 0} (xs ys : List A) → drop (length xs) (xs ++ ys) ≡ ys
 dropped [] ys = refl
 dropped (x ∷ xs) ys = dropped xs ys
 

@@ -1,15 +1,15 @@
 -- Small runs over each form of store.
-use Rattle.std.proofs.Common.{◌≡◌, ℕ, List, [], ◌∷◌, Option, None, Some, refl, pos, false, length}
+use Rattle.std.proofs.Common.{◌≡◌, [], ◌∷◌, None, Some, refl, pos, false}
 use Rattle.dyn_value.specs.declared.entry.Entry.{Entry}
 use Rattle.dyn_value.specs.declared.fault.Fault.TheVariants.{NoMember}
 use Rattle.dyn_value.specs.declared.outcome.Outcome.TheVariants as outcome
 use Rattle.dyn_value.specs.declared.value.Value.TheVariants as value
 use Rattle.standard_binders.specs.declared.binder.Binder.TheVariants.{GetMember, SetMember}
-use Rattle.task_code.specs.Acts.{Gives, Ends, Prints, Asks, Draws, answered}
+use Rattle.task_code.specs.Acts.{Prints, Asks, Draws, answered}
 use Rattle.task_code.specs.Codes.{Plan}
 use Rattle.task_walk.specs.Tales.{Teller}
 use Rattle.task_walk.specs.declared.ended.Ended.TheVariants as ended
-use Rattle.task_run.specs.Deeds.{Deeds, deeds_of, ended_of}
+use Rattle.task_walk.specs.Deeds.{Deeds, deeds_of, ended_of}
 use Rattle.task_run.specs.Stores.{Left, Journals, left_objects, journal_objects, run_over}
 
 plan : Plan

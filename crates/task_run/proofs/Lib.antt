@@ -1,3 +1,4 @@
 pub mod EventRuns
 mod Examples
+pub mod Growth
 pub mod TwoStores

@@ -46,11 +46,13 @@ abbrev pub number_at : Plan → ℕ → ℕ
 number_at plan site = get_or plan.sites site 0
 
 -- the outcome of an operation, and the store after it; an operation that looks at no object leaves the store
-abbrev pub outcome_on : {Store : Type 0} → Objects Store → Plan → Option OnObject → ℕ → Binder → List Value → Store → Option (Outcome × Store)
+abbrev pub outcome_on : {Store : Type 0} → Objects Store → Plan → Option OnObject → ℕ → Binder → List Value → Store
+    → Option (Outcome × Store)
 outcome_on objects plan None site binder operands store = Some (plain_step plan.functions binder operands, store)
 outcome_on objects plan (Some x) site binder operands store = objects.operate store (number_at plan site) binder x
 
-abbrev pub goes_on : {Store S A : Type 0} → Asked → Store → (Outcome → Store → Run Store S A) → Option (Outcome × Store) → Run Store S A
+abbrev pub goes_on : {Store S A : Type 0} → Asked → Store → (Outcome → Store → Run Store S A) → Option (Outcome × Store)
+    → Run Store S A
 goes_on a store next None = no_answer store
 goes_on a store next (Some o) = after_asked a (next o.0 o.1)
 
@@ -65,7 +67,8 @@ run_over objects plan (Prints line act) store = after_line line (run_over object
 run_over objects plan (Asks site binder operands act) store =
     goes_on (record { site = site; operands = operands }) store (λ o after. run_over objects plan (act o) after)
     (outcome_on objects plan (on_object binder operands) site binder operands store)
-run_over objects plan (Draws act) store = draws_on store (λ n after. run_over objects plan (act n) after) (objects.draw store)
+run_over objects plan (Draws act) store =
+    draws_on store (λ n after. run_over objects plan (act n) after) (objects.draw store)
 
 -- whether these are the same values
 abbrev pub are_same : List Value → List Value → Bool
@@ -104,20 +107,25 @@ pub record Journals : Type 0 where
 
 -- the entry of an operation whose binder has this number
 abbrev pub entry_made : Teller → ℕ → OnObject → Outcome → Entry
-entry_made by number x o = record { pass = by.pass; task = by.task; binder = number; operands = x.operands; outcome = o }
+entry_made by number x o =
+    record { pass = by.pass; task = by.task; binder = number; operands = x.operands; outcome = o }
 
 -- the object's journal takes the entry
 abbrev pub with_entry : Journals → OnObject → Entry → Journals
-with_entry journals x e = record { entries = updated journals.entries x.object (journals.entries x.object ++ e ∷ []); next = journals.next }
+with_entry journals x e = record {
+  entries = updated journals.entries x.object (journals.entries x.object ++ e ∷ []);
+  next = journals.next;
+}
 
 -- An operation on an object gives what its binder gives on the members after the object's journal, and its entry
--- is appended; there is no answer where the binder's operation is none on members, or the operands do not suit it. A draw
--- gives the next number.
+-- is appended; there is no answer where the binder's operation is none on members, or the operands do not suit it. A
+-- draw gives the next number.
 abbrev pub journal_objects : Teller → Objects Journals
 journal_objects teller = record {
   operate = λ journals number binder x.
       option_map (λ step. (step.outcome, with_entry journals x (entry_made teller number x step.outcome)))
-      (step_of teller.plan.binders (members_after teller.plan.binders [] (journals.entries x.object)) number x.operands);
+      (step_of teller.plan.binders (members_after teller.plan.binders [] (journals.entries x.object)) number
+      x.operands);
   draw = λ journals. Some (journals.next, record { entries = journals.entries; next = journals.next + 1 });
 }
 
@@ -141,14 +149,17 @@ AreFrom next (n ∷ ns) = (n ≡ next) × AreFrom (next + 1) ns
 
 -- what is left goes on legally where the journals end, and the numbers left are the next ones
 pub record Follows (teller : Teller) (left : Left) (journals : Journals) : Type 0 where
-  pub legal : (object : ℕ) → IsLegal teller.plan.binders (members_after teller.plan.binders [] (journals.entries object)) (left.entries object)
+  pub legal : (object : ℕ)
+      → IsLegal teller.plan.binders (members_after teller.plan.binders [] (journals.entries object)) (left.entries object)
   pub told : (object : ℕ) → AllByRecursion (IsToldBy teller) (left.entries object)
   pub drawn : AreFrom journals.next left.drawn
 
 -- the two runs come to the same, and the journals took what was used up
-pub record AreAlike {S A : Type 0} (one : Run Left S A) (two : Run Journals S A) (left : Left) (journals : Journals) : Type 0 where
+pub record AreAlike {S A : Type 0} (one : Run Left S A) (two : Run Journals S A)
+    (left : Left) (journals : Journals) : Type 0 where
   pub came : two.came ≡ one.came
   pub lines : two.lines ≡ one.lines
   pub asked : two.asked ≡ one.asked
-  pub entries : (object : ℕ) → two.store.entries object ++ one.store.entries object ≡ journals.entries object ++ left.entries object
+  pub entries : (object : ℕ)
+      → two.store.entries object ++ one.store.entries object ≡ journals.entries object ++ left.entries object
   pub next : two.store.next + length one.store.drawn ≡ journals.next + length left.drawn

@@ -4,4 +4,4 @@
 
 mod laws;
 
-pub use laws::{stores_are_alike, what_was_done_is_the_run};
+pub use laws::{stores_are_alike, what_was_done_is_added, what_was_done_is_the_run};

@@ -39,7 +39,8 @@ came_ended plan (Gives Next) own m before = came_none plan (Gives value.Nil) own
 came_ended plan (Gives (Returned v)) own m before = came_none plan (Gives v) own.turns m before
 came_ended plan (Fails f) own m before = came_none plan (Fails f) own.turns m before
 
-came_body : {H : Type 0} (plan : Plan) (act : Act Frame Flow) (e : Option (Ending Flow)) (s own : Frame) (old new : Told) (before now : H → List Asked → Type 0)
+came_body : {H : Type 0} (plan : Plan) (act : Act Frame Flow) (e : Option (Ending Flow)) (s own : Frame) (old new : Told)
+    (before now : H → List Asked → Type 0)
     → Came plan act e own old new before now
     → Came plan (bind (bind act body_ends) (back_in s)) (called_ending e) (back s own) old new before now
 came_body plan act (Some e) s own old new before now came =
@@ -48,32 +49,44 @@ came_body plan act (Some e) s own old new before now came =
     (came_none plan (call_ending e) (back s own) new now)
 came_body plan act None s own old new before now came = came_lost plan act (bind (bind act body_ends) (back_in s)) own (back s own) old new before now came
 
-came_called : {H : Type 0} (plan : Plan) (limit : ℕ) (functions : List FunctionCode) (f : ℕ) (found : FunctionCode) (info : Arguments) (args : List Value) (more levels inner turns left : ℕ)
+came_called : {H : Type 0} (plan : Plan) (limit : ℕ) (functions : List FunctionCode) (f : ℕ) (found : FunctionCode) (info : Arguments) (args : List Value)
+    (more levels inner turns left : ℕ)
     (locals : List Value) (e : Option (Ending Flow)) (own : Frame) (old new : Told) (before now : H → List Asked → Type 0)
     → slice_get functions f ≡ Some found → levels ≡ suc inner → turns ≡ suc left → levels ≤ more
-    → ((m : ℕ) → inner ≤ m → Came plan (body_act (around_of plan limit functions m) found.body inner (record { turns = left; locals = values_of found.params info args })) e own old new before now)
-    → Came plan (calls_on (around_of plan limit functions more) f info args levels (record { turns = turns; locals = locals })) (called_ending e) (record { turns = own.turns; locals = locals }) old new before now
-came_called plan limit functions f found info args zero levels inner turns left locals e own old new before now at deep counted enough came = absurd (omega arith)
+    → ((m : ℕ) → inner ≤ m → Came plan (body_act (around_of plan limit functions m) found.body inner
+    (record { turns = left; locals = values_of found.params info args })) e own old new before now)
+    → Came plan (calls_on (around_of plan limit functions more) f info args levels (record { turns = turns; locals = locals })) (called_ending e)
+    (record { turns = own.turns; locals = locals }) old new before now
+came_called plan limit functions f found info args zero levels inner turns left locals e own old new before now at deep counted enough came = absurd
+    (omega arith)
 came_called {H = H} plan limit functions f found info args (suc m) levels inner turns left locals e own old new before now at deep counted enough came =
     let within_m : inner ≤ m = omega arith in
-    let whole : Came plan (bind (function_act (around_of plan limit functions m) (slice_get functions f) info args inner left) (back_in (record { turns = left; locals = locals }))) (called_ending e) (record { turns = own.turns; locals = locals }) old new before now =
-    subst (λ o. Came plan (bind (function_act (around_of plan limit functions m) o info args inner left) (back_in (record { turns = left; locals = locals }))) (called_ending e) (record { turns = own.turns; locals = locals }) old new before now) (sym at)
-    (came_body plan (body_act (around_of plan limit functions m) found.body inner (record { turns = left; locals = values_of found.params info args })) e (record { turns = left; locals = locals }) own old new before now (came m within_m)) in
-    subst (λ n. Came plan (calls_on (around_of plan limit functions (suc m)) f info args levels (record { turns = n; locals = locals })) (called_ending e) (record { turns = own.turns; locals = locals }) old new before now) (sym counted)
-    (subst (λ n. Came plan (within n (record { turns = left; locals = locals }) (λ deeper. bind ((around_of plan limit functions (suc m)).calls f info args deeper left) (back_in (record { turns = left; locals = locals }))))
+    let whole : Came plan (bind (function_act (around_of plan limit functions m) (slice_get functions f) info args inner left)
+    (back_in (record { turns = left; locals = locals }))) (called_ending e) (record { turns = own.turns; locals = locals }) old new before now =
+    subst (λ o. Came plan (bind (function_act (around_of plan limit functions m) o info args inner left) (back_in (record { turns = left; locals = locals })))
+    (called_ending e) (record { turns = own.turns; locals = locals }) old new before now) (sym at)
+    (came_body plan (body_act (around_of plan limit functions m) found.body inner (record { turns = left; locals = values_of found.params info args })) e
+    (record { turns = left; locals = locals }) own old new before now (came m within_m)) in
+    subst (λ n. Came plan (calls_on (around_of plan limit functions (suc m)) f info args levels (record { turns = n; locals = locals })) (called_ending e)
+    (record { turns = own.turns; locals = locals }) old new before now) (sym counted)
+    (subst (λ n. Came plan (within n (record { turns = left; locals = locals }) (λ deeper. bind
+    ((around_of plan limit functions (suc m)).calls f info args deeper left) (back_in (record { turns = left; locals = locals }))))
     (called_ending e) (record { turns = own.turns; locals = locals }) old new before now) (sym deep) whole)
 
-proper_called : (by : Teller) (e : Option (Ending Flow)) → IfSome e (IsProperEnding (IsProperFlow by)) → IfSome (called_ending e) (IsProperEnding (IsProperValue by))
+proper_called : (by : Teller) (e : Option (Ending Flow)) → IfSome e (IsProperEnding (IsProperFlow by))
+    → IfSome (called_ending e) (IsProperEnding (IsProperValue by))
 proper_called by None is = tt
 proper_called by (Some (Gives Next)) is = tt
 proper_called by (Some (Gives (Returned v))) is = is
 proper_called by (Some (Fails f)) is = is
 
 -- a function is called, and its body's cost is paid by the turn
-pub walked_called : {H : Type 0} (by : Teller) (functions : List FunctionCode) (f : ℕ) (found : FunctionCode) (info : Arguments) (args : List Value) (levels inner turns left cost : ℕ)
+pub walked_called : {H : Type 0} (by : Teller) (functions : List FunctionCode) (f : ℕ) (found : FunctionCode) (info : Arguments) (args : List Value)
+    (levels inner turns left cost : ℕ)
     (locals : List Value) (e : Option (Ending Flow)) (own : Frame) (old new : Told) (before now : H → List Asked → Type 0)
     → slice_get functions f ≡ Some found → levels ≡ suc inner → turns ≡ suc left → cost ≤ 2097152 → AreProper by locals
-    → Walked by functions inner (λ a. body_act a found.body inner (record { turns = left; locals = values_of found.params info args })) IsProperFlow cost e (record { turns = left; locals = values_of found.params info args }) own old new before now
+    → Walked by functions inner (λ a. body_act a found.body inner (record { turns = left; locals = values_of found.params info args })) IsProperFlow cost e
+    (record { turns = left; locals = values_of found.params info args }) own old new before now
     → Walked by functions levels (λ a. calls_on a f info args levels (record { turns = turns; locals = locals })) IsProperValue 0 (called_ending e)
     (record { turns = turns; locals = locals }) (record { turns = own.turns; locals = locals }) old new before now
 walked_called by functions f found info args levels inner turns left cost locals e own old new before now at deep counted cheap proper one =
@@ -85,7 +98,8 @@ walked_called by functions f found info args levels inner turns left cost locals
       count = omega arith;
       proper = proper_called by e one.proper;
       locals = proper;
-      comes = λ more enough. came_called by.plan by.limit functions f found info args more levels inner turns left locals e own old new before now at deep counted enough one.comes;
+      comes = λ more enough. came_called by.plan by.limit functions f found info args more levels inner turns left locals e own old new before now at deep
+          counted enough one.comes;
     }
 
 pub called_stopped : (why : Stop) → called_ending (stopped why) ≡ stopped why
@@ -93,7 +107,8 @@ called_stopped (stop.Fault f) = refl
 called_stopped stop.Memory = refl
 
 -- a turn was counted, and no level is left
-pub walked_deep : {H : Type 0} (by : Teller) (functions : List FunctionCode) (f : ℕ) (info : Arguments) (args : List Value) (levels turns left : ℕ) (locals : List Value) (m : Told) (before : H → List Asked → Type 0)
+pub walked_deep : {H : Type 0} (by : Teller) (functions : List FunctionCode) (f : ℕ) (info : Arguments) (args : List Value) (levels turns left : ℕ)
+    (locals : List Value) (m : Told) (before : H → List Asked → Type 0)
     → turns ≡ suc left → levels ≡ 0 → m.world.by ≡ by → AreProper by locals
     → Walked by functions levels (λ a. calls_on a f info args levels (record { turns = turns; locals = locals })) IsProperValue 0 (Some (Fails Depth))
     (record { turns = turns; locals = locals }) (record { turns = left; locals = locals }) m m before before
@@ -104,9 +119,12 @@ walked_deep {H = H} by functions f info args levels turns left locals m before c
   proper = tt;
   locals = proper;
   comes = λ more enough.
-      subst (λ n. Came by.plan (calls_on (around_of by.plan by.limit functions more) f info args levels (record { turns = n; locals = locals })) (Some (Fails Depth)) (record { turns = left; locals = locals }) m m before before) (sym counted)
-      (subst (λ n. Came by.plan (within n (record { turns = left; locals = locals }) (λ deeper. bind ((around_of by.plan by.limit functions more).calls f info args deeper left) (back_in (record { turns = left; locals = locals }))))
-      (Some (Fails Depth)) (record { turns = left; locals = locals }) m m before before) (sym deep) (came_none by.plan (Fails Depth) (record { turns = left; locals = locals }) m before));
+      subst (λ n. Came by.plan (calls_on (around_of by.plan by.limit functions more) f info args levels (record { turns = n; locals = locals }))
+      (Some (Fails Depth)) (record { turns = left; locals = locals }) m m before before) (sym counted)
+      (subst (λ n. Came by.plan (within n (record { turns = left; locals = locals })
+      (λ deeper. bind ((around_of by.plan by.limit functions more).calls f info args deeper left) (back_in (record { turns = left; locals = locals }))))
+      (Some (Fails Depth)) (record { turns = left; locals = locals }) m m before before) (sym deep)
+      (came_none by.plan (Fails Depth) (record { turns = left; locals = locals }) m before));
 }
 
 -- a function's body may be walked, for a turn

@@ -1,5 +1,6 @@
 -- The text of a fault whose names are short fits in a value.
-use Rattle.std.proofs.Common.{◌≡◌, ℕ, ◌+◌, ◌*◌, ◌^◌, ◌<◌, ◌≤◌, true, false, Bool, List, [], ◌∷◌, ◌++◌, length, refl, ap, sym, ◌∙◌, subst, arith, length-append, codes, lit≤}
+use Rattle.std.proofs.Common.{◌≡◌, ℕ, ◌+◌, ◌*◌, ◌^◌, ◌<◌, ◌≤◌, true, false, Bool, List, [], ◌∷◌, ◌++◌, length, refl, ap, sym, ◌∙◌, subst, arith}
+use Rattle.std.proofs.Common.{length-append, codes, lit≤}
 use Rattle.std.specs.Prelude.{encode_utf8_all, ◌&&◌, if◌then◌else◌, ◌==◌}
 use Rattle.std.specs.List.{flat_map}
 use Rattle.std.specs.Fmt.{decimal}
@@ -68,7 +69,8 @@ short_all (c ∷ cs) is =
 short_quoted : (name : List ℕ) → IsName name → IsShort 1000 (quoted_text name)
 unfolding encode
 short_quoted name is =
-    let inner : IsShort 128 (flat_map escaped name) = short_more (2 * length (encode_utf8_all name)) 128 (flat_map escaped name) (omega (arith, is.1)) (short_all name is.0) in
+    let inner : IsShort 128 (flat_map escaped name) = short_more (2 * length (encode_utf8_all name)) 128 (flat_map escaped name) (omega (arith, is.1))
+    (short_all name is.0) in
     short_more (1 + 128 + 1) 1000 (quoted_text name) (lit≤ tt)
     (short_both (1 + 128) 1 (34 ∷ flat_map escaped name) (34 ∷ []) (short_both 1 128 (34 ∷ []) (flat_map escaped name) (refl, lit≤ tt) inner) (refl, lit≤ tt))
 
@@ -92,7 +94,8 @@ short_kind kind.Fun = (refl, lit≤ tt)
 short_kind kind.Obj = (refl, lit≤ tt)
 
 named : (label name : List ℕ) → IsShort 20 label → IsName name → IsShort 65536 (label ++ quoted_text name)
-named label name one is = short_more (20 + 1000) 65536 (label ++ quoted_text name) (lit≤ tt) (short_both 20 1000 label (quoted_text name) one (short_quoted name is))
+named label name one is = short_more (20 + 1000) 65536 (label ++ quoted_text name) (lit≤ tt)
+    (short_both 20 1000 label (quoted_text name) one (short_quoted name is))
 
 of_kind : (label : List ℕ) (k : Kind) → IsShort 20 label → IsShort 65536 (label ++ kind_name k)
 of_kind label k one = short_more (20 + 4) 65536 (label ++ kind_name k) (lit≤ tt) (short_both 20 4 label (kind_name k) one (short_kind k))

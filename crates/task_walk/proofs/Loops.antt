@@ -1,5 +1,6 @@
 -- How a loop goes on, round by round, and how a function is called.
-use Rattle.std.proofs.Common.{◌≡◌, ℕ, zero, suc, ◌+◌, ◌*◌, ◌^◌, ◌<◌, ◌≤◌, List, [], ◌∷◌, length, drop, get_or, map, sum, flat_map, true, false, Some, refl, ap, sym, ◌∙◌, subst, arith}
+use Rattle.std.proofs.Common.{◌≡◌, ℕ, zero, suc, ◌+◌, ◌*◌, ◌^◌, ◌<◌, ◌≤◌, List, [], ◌∷◌, length, drop, get_or, map, sum, flat_map, true, false, Some, refl}
+use Rattle.std.proofs.Common.{ap, sym, ◌∙◌, subst, arith}
 use Rattle.std.proofs.lemmas.List.{drop_more, drop_all}
 use Rattle.std.proofs.lemmas.List.Sums.{sum_by-cons}
 use Rattle.std.specs.List.{AllByRecursion}
@@ -21,7 +22,8 @@ use Rattle.task_walk.specs.Walks.{IsFor, IsReady, Walked}
 use Rattle.task_walk.proofs.Walkings.{walked_end, all_first, all_second}
 
 -- the walk may go on with a part of the rest
-pub ready_going : {A H : Type 0} (code : Code) (uses part : Uses) (cost part_cost : ℕ) (functions : List FunctionCode) (levels : ℕ) (whole rest : Around → Act Frame A)
+pub ready_going : {A H : Type 0} (code : Code) (uses part : Uses) (cost part_cost : ℕ) (functions : List FunctionCode) (levels : ℕ)
+    (whole rest : Around → Act Frame A)
     (rest_cost : ℕ) (first s : Frame) (old now : Told) (before during : H → List Asked → Type 0)
     → IsReady code old.world uses cost first
     → Going old.world.by functions levels whole cost first old before rest rest_cost s now during
@@ -39,7 +41,8 @@ ready_going code uses part cost part_cost functions levels whole rest rest_cost 
       proper = subst (λ b. AreProper b s.locals) (sym going.same) going.locals;
     }
 
-pub all_dropped : {A B : Type 0} (P : B → Type 0) (f : A → List B) (xs : List A) (i : ℕ) → AllByRecursion P (flat_map f xs) → AllByRecursion P (flat_map f (drop i xs))
+pub all_dropped : {A B : Type 0} (P : B → Type 0) (f : A → List B) (xs : List A) (i : ℕ) → AllByRecursion P (flat_map f xs)
+    → AllByRecursion P (flat_map f (drop i xs))
 all_dropped P f xs zero all = all
 all_dropped P f [] (suc i) all = all
 all_dropped P f (x ∷ xs) (suc i) all = all_dropped P f xs i (all_second P (f x) (flat_map f xs) all)
@@ -63,7 +66,8 @@ chosen_false (value.Fun f) go other is = refl
 chosen_false (value.Obj o) go other is = refl
 
 -- the rest is another act that is the same, and costs no more
-pub going_as : {A H : Type 0} (by : Teller) (functions : List FunctionCode) (levels : ℕ) (whole : Around → Act Frame A) (cost : ℕ) (first : Frame) (old : Told) (before : H → List Asked → Type 0)
+pub going_as : {A H : Type 0} (by : Teller) (functions : List FunctionCode) (levels : ℕ) (whole : Around → Act Frame A) (cost : ℕ) (first : Frame)
+    (old : Told) (before : H → List Asked → Type 0)
     (rest other : Around → Act Frame A) (rest_cost other_cost : ℕ) (s : Frame) (now : Told) (during : H → List Asked → Type 0)
     → ((a : Around) → rest a ≡ other a) → other_cost ≤ rest_cost
     → Going by functions levels whole cost first old before rest rest_cost s now during
@@ -75,15 +79,19 @@ going_as by functions levels whole cost first old before rest other rest_cost ot
       fewer = going.fewer;
       count = omega arith;
       locals = going.locals;
-      goes = λ more enough. subst (λ x. Onward by.plan (whole (around_of by.plan by.limit functions more)) old before x now during) (is (around_of by.plan by.limit functions more)) (going.goes more enough);
+      goes = λ more enough. subst (λ x. Onward by.plan (whole (around_of by.plan by.limit functions more)) old before x now during)
+          (is (around_of by.plan by.limit functions more)) (going.goes more enough);
     }
 
 -- a turn is counted, which pays for what is asked up to the next
-pub going_turn : {A H : Type 0} (by : Teller) (functions : List FunctionCode) (levels : ℕ) (whole : Around → Act Frame A) (cost : ℕ) (first : Frame) (old : Told) (before : H → List Asked → Type 0)
+pub going_turn : {A H : Type 0} (by : Teller) (functions : List FunctionCode) (levels : ℕ) (whole : Around → Act Frame A) (cost : ℕ) (first : Frame)
+    (old : Told) (before : H → List Asked → Type 0)
     (go : Around → Frame → Act Frame A) (rest_cost next_cost turns left : ℕ) (locals : List Value) (now : Told) (during : H → List Asked → Type 0)
     → turns ≡ suc left → next_cost ≤ rest_cost + 2097152
-    → Going by functions levels whole cost first old before (λ a. counts (record { turns = turns; locals = locals }) (go a)) rest_cost (record { turns = turns; locals = locals }) now during
-    → Going by functions levels whole cost first old before (λ a. go a (record { turns = left; locals = locals })) next_cost (record { turns = left; locals = locals }) now during
+    → Going by functions levels whole cost first old before (λ a. counts (record { turns = turns; locals = locals }) (go a)) rest_cost
+    (record { turns = turns; locals = locals }) now during
+    → Going by functions levels whole cost first old before (λ a. go a (record { turns = left; locals = locals })) next_cost
+    (record { turns = left; locals = locals }) now during
 going_turn by functions levels whole cost first old before go rest_cost next_cost turns left locals now during is paid going =
     let counted : now.world.count + rest_cost + turns * 2097152 ≤ old.world.count + cost + first.turns * 2097152 = going.count in
     let fewer : turns ≤ first.turns = going.fewer in
@@ -92,11 +100,13 @@ going_turn by functions levels whole cost first old before go rest_cost next_cos
       fewer = omega arith;
       count = omega arith;
       locals = going.locals;
-      goes = λ more enough. subst (λ n. Onward by.plan (whole (around_of by.plan by.limit functions more)) old before (counts (record { turns = n; locals = locals }) (go (around_of by.plan by.limit functions more))) now during) is (going.goes more enough);
+      goes = λ more enough. subst (λ n. Onward by.plan (whole (around_of by.plan by.limit functions more)) old before
+          (counts (record { turns = n; locals = locals }) (go (around_of by.plan by.limit functions more))) now during) is (going.goes more enough);
     }
 
 -- no turn is left
-pub walked_turns : {A H : Type 0} (by : Teller) (functions : List FunctionCode) (levels : ℕ) (go : Around → Frame → Act Frame A) (P : Teller → A → Type 0) (cost turns : ℕ) (locals : List Value)
+pub walked_turns : {A H : Type 0} (by : Teller) (functions : List FunctionCode) (levels : ℕ) (go : Around → Frame → Act Frame A) (P : Teller → A → Type 0)
+    (cost turns : ℕ) (locals : List Value)
     (m : Told) (before : H → List Asked → Type 0)
     → turns ≡ 0 → m.world.by ≡ by → AreProper by locals
     → Walked by functions levels (λ a. counts (record { turns = turns; locals = locals }) (go a)) P cost (Some (Fails Turns))
@@ -118,18 +128,21 @@ sum_first costs x xs = sum_by-cons (λ n. n) (costs x) (map costs xs)
 pub drop_at : {X : Type 0} (xs : List X) (i : ℕ) (x : X) → i < length xs → x ≡ get_or xs i x → drop i xs ≡ x ∷ drop (i + 1) xs
 drop_at xs i x less is = drop_more xs i x less ∙ ap (λ y. y ∷ drop (i + 1) xs) (sym is)
 
-pub going_item : {A H X : Type 0} (by : Teller) (functions : List FunctionCode) (levels : ℕ) (whole : Around → Act Frame A) (cost : ℕ) (first : Frame) (old : Told) (before : H → List Asked → Type 0)
+pub going_item : {A H X : Type 0} (by : Teller) (functions : List FunctionCode) (levels : ℕ) (whole : Around → Act Frame A) (cost : ℕ) (first : Frame)
+    (old : Told) (before : H → List Asked → Type 0)
     (go : Around → List X → Act Frame A) (costs : X → ℕ) (xs : List X) (i : ℕ) (x : X) (s : Frame) (now : Told) (during : H → List Asked → Type 0)
     → i < length xs → x ≡ get_or xs i x
     → Going by functions levels whole cost first old before (λ a. go a (drop i xs)) (sum (map costs (drop i xs))) s now during
     → Going by functions levels whole cost first old before (λ a. go a (x ∷ drop (i + 1) xs)) (costs x + sum (map costs (drop (i + 1) xs))) s now during
 going_item by functions levels whole cost first old before go costs xs i x s now during less is going =
     let at : drop i xs ≡ x ∷ drop (i + 1) xs = drop_at xs i x less is in
-    going_as by functions levels whole cost first old before (λ a. go a (drop i xs)) (λ a. go a (x ∷ drop (i + 1) xs)) (sum (map costs (drop i xs))) (costs x + sum (map costs (drop (i + 1) xs))) s now during
+    going_as by functions levels whole cost first old before (λ a. go a (drop i xs)) (λ a. go a (x ∷ drop (i + 1) xs)) (sum (map costs (drop i xs)))
+    (costs x + sum (map costs (drop (i + 1) xs))) s now during
     (λ a. ap (go a) at) (omega (arith, ap (λ ys. sum (map costs ys)) at, sum_first costs x (drop (i + 1) xs))) going
 
 -- no item is left
-pub going_past : {A H X : Type 0} (by : Teller) (functions : List FunctionCode) (levels : ℕ) (whole : Around → Act Frame A) (cost : ℕ) (first : Frame) (old : Told) (before : H → List Asked → Type 0)
+pub going_past : {A H X : Type 0} (by : Teller) (functions : List FunctionCode) (levels : ℕ) (whole : Around → Act Frame A) (cost : ℕ) (first : Frame)
+    (old : Told) (before : H → List Asked → Type 0)
     (go : Around → List X → Act Frame A) (xs : List X) (i rest_cost : ℕ) (s : Frame) (now : Told) (during : H → List Asked → Type 0)
     → length xs ≤ i
     → Going by functions levels whole cost first old before (λ a. go a (drop i xs)) rest_cost s now during
@@ -139,11 +152,13 @@ going_past by functions levels whole cost first old before go xs i rest_cost s n
     (λ a. ap (go a) (drop_all i xs past)) (omega arith) going
 
 -- what is allowed of all items is allowed of one
-pub fits_item : {X B : Type 0} (P : B → Type 0) (f : X → List B) (xs : List X) (i : ℕ) (x : X) → i < length xs → x ≡ get_or xs i x → AllByRecursion P (flat_map f xs) → AllByRecursion P (f x)
+pub fits_item : {X B : Type 0} (P : B → Type 0) (f : X → List B) (xs : List X) (i : ℕ) (x : X) → i < length xs → x ≡ get_or xs i x
+    → AllByRecursion P (flat_map f xs) → AllByRecursion P (f x)
 fits_item P f xs i x less is all =
     all_first P (f x) (flat_map f (drop (i + 1) xs)) (subst (λ ys. AllByRecursion P (flat_map f ys)) (drop_at xs i x less is) (all_dropped P f xs i all))
 
-pub sum_item : {X : Type 0} (costs : X → ℕ) (xs : List X) (i : ℕ) (x : X) → i < length xs → x ≡ get_or xs i x → sum (map costs (drop i xs)) ≡ costs x + sum (map costs (drop (i + 1) xs))
+pub sum_item : {X : Type 0} (costs : X → ℕ) (xs : List X) (i : ℕ) (x : X) → i < length xs → x ≡ get_or xs i x
+    → sum (map costs (drop i xs)) ≡ costs x + sum (map costs (drop (i + 1) xs))
 sum_item costs xs i x less is = ap (λ ys. sum (map costs ys)) (drop_at xs i x less is) ∙ sum_first costs x (drop (i + 1) xs)
 
 pub sum_dropped : {X : Type 0} (costs : X → ℕ) (xs : List X) (i : ℕ) → sum (map costs (drop i xs)) ≤ sum (map costs xs)

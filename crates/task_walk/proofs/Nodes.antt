@@ -47,7 +47,8 @@ three_operands x y z levels s go =
     ∙ (λ i. and_then (x levels s) (λ v t. then_then (y levels t) (λ w u. and_then (z levels u) (λ q r. gives (v ∷ w ∷ q ∷ []) r)) go i))
     ∙ (λ i. and_then (x levels s) (λ v t. and_then (y levels t) (λ w u. then_then (z levels u) (λ q r. gives (v ∷ w ∷ q ∷ []) r) go i)))
 
-pub head_walked : {H : Type 0} (by : Teller) (functions : List FunctionCode) (levels : ℕ) (h form : NodeHead) (other : Around → Evaluates) (P : Teller → Value → Type 0) (cost : ℕ)
+pub head_walked : {H : Type 0} (by : Teller) (functions : List FunctionCode) (levels : ℕ) (h form : NodeHead) (other : Around → Evaluates)
+    (P : Teller → Value → Type 0) (cost : ℕ)
     (ending : Option (Ending Value)) (first last : Frame) (old new : Told) (before now : H → List Asked → Type 0)
     → h ≡ form → ((a : Around) → head_act a form ≡ other a) → head_cost form ≡ cost
     → Walked by functions levels (λ a. other a levels first) P cost ending first last old new before now
@@ -56,16 +57,19 @@ head_walked by functions levels h form other P cost ending first last old new be
     walked_as by functions levels (λ a. head_act a h levels first) (λ a. other a levels first) P cost (head_cost h) ending first last old new before now
     (λ a. ap (λ (f : Evaluates). f levels first) (sym (ap (head_act a) is ∙ act a))) (omega (arith, ap head_cost is, costs)) one
 
-pub suffix_walked : {H : Type 0} (by : Teller) (functions : List FunctionCode) (levels : ℕ) (x form : NodeSuffix) (v : Value) (other : Around → Reads) (P : Teller → Value → Type 0) (cost : ℕ)
+pub suffix_walked : {H : Type 0} (by : Teller) (functions : List FunctionCode) (levels : ℕ) (x form : NodeSuffix) (v : Value) (other : Around → Reads)
+    (P : Teller → Value → Type 0) (cost : ℕ)
     (ending : Option (Ending Value)) (first last : Frame) (old new : Told) (before now : H → List Asked → Type 0)
     → x ≡ form → ((a : Around) → suffix_act a form ≡ other a) → suffix_cost form ≡ cost
     → Walked by functions levels (λ a. other a levels v first) P cost ending first last old new before now
     → Walked by functions levels (λ a. suffix_act a x levels v first) P (suffix_cost x) ending first last old new before now
 suffix_walked by functions levels x form v other P cost ending first last old new before now is act costs one =
-    walked_as by functions levels (λ a. suffix_act a x levels v first) (λ a. other a levels v first) P cost (suffix_cost x) ending first last old new before now
+    walked_as by functions levels (λ a. suffix_act a x levels v first) (λ a. other a levels v first) P cost (suffix_cost x) ending first last old new before
+    now
     (λ a. ap (λ (f : Reads). f levels v first) (sym (ap (suffix_act a) is ∙ act a))) (omega (arith, ap suffix_cost is, costs)) one
 
-pub step_walked : {H : Type 0} (by : Teller) (functions : List FunctionCode) (levels : ℕ) (x form : Step) (other : Around → Executes) (P : Teller → Flow → Type 0) (cost : ℕ)
+pub step_walked : {H : Type 0} (by : Teller) (functions : List FunctionCode) (levels : ℕ) (x form : Step) (other : Around → Executes)
+    (P : Teller → Flow → Type 0) (cost : ℕ)
     (ending : Option (Ending Flow)) (first last : Frame) (old new : Told) (before now : H → List Asked → Type 0)
     → x ≡ form → ((a : Around) → step_act a form ≡ other a) → step_cost form ≡ cost
     → Walked by functions levels (λ a. other a levels first) P cost ending first last old new before now
@@ -81,7 +85,8 @@ pub node_walked : {H : Type 0} (by : Teller) (functions : List FunctionCode) (le
     (head_cost e.head + sum (map suffix_cost e.suffixes)) ending first last old new before now
     → Walked by functions levels (λ a. node_act a e levels first) P (node_cost e) ending first last old new before now
 node_walked by functions levels e P ending first last old new before now one =
-    walked_as by functions levels (λ a. node_act a e levels first) (λ a. and_then (head_act a e.head levels first) (λ v after. suffixes_act (map (suffix_act a) e.suffixes) levels v after)) P
+    walked_as by functions levels (λ a. node_act a e levels first) (λ a. and_then (head_act a e.head levels first)
+    (λ v after. suffixes_act (map (suffix_act a) e.suffixes) levels v after)) P
     (head_cost e.head + sum (map suffix_cost e.suffixes)) (node_cost e) ending first last old new before now
     (λ a. ap (λ (f : Evaluates). f levels first) (sym (act-node a e))) (omega (arith, cost-node e)) one
 
@@ -101,7 +106,8 @@ uses_map f [] = refl
 uses_map f (x ∷ xs) = ap (λ us. f x ++ us) (uses_map f xs)
 
 pub fits_head : (plan : Plan) (limit : ℕ) (e : Node) → Fits plan limit (node_uses e) → Fits plan limit (head_uses e.head)
-fits_head plan limit e fits = all_first (IsAllowed plan limit) (head_uses e.head) (all_uses (map suffix_uses e.suffixes)) (subst (Fits plan limit) (uses-node e) fits)
+fits_head plan limit e fits = all_first (IsAllowed plan limit) (head_uses e.head) (all_uses (map suffix_uses e.suffixes))
+    (subst (Fits plan limit) (uses-node e) fits)
 
 pub fits_suffixes : (plan : Plan) (limit : ℕ) (e : Node) → Fits plan limit (node_uses e) → Fits plan limit (flat_map suffix_uses e.suffixes)
 fits_suffixes plan limit e fits =

@@ -17,7 +17,8 @@ use Rattle.task_walk.specs.Walks.{stopped, IsFor, IsReady, IsProperEnding, Walke
 use Rattle.task_walk.proofs.Comings.{came_bind, came_lost, came_none}
 
 -- one part, and then another by what the first came to
-pub walked_bind : {A B H : Type 0} (by : Teller) (functions : List FunctionCode) (levels : ℕ) (act : Around → Act Frame A) (next : Around → Ending A → Frame → Act Frame B)
+pub walked_bind : {A B H : Type 0} (by : Teller) (functions : List FunctionCode) (levels : ℕ) (act : Around → Act Frame A)
+    (next : Around → Ending A → Frame → Act Frame B)
     (P : Teller → A → Type 0) (Q : Teller → B → Type 0) (one_cost two_cost cost : ℕ) (e : Ending A) (ending : Option (Ending B)) (first between last : Frame)
     (old middle new : Told) (before during now : H → List Asked → Type 0)
     → Walked by functions levels act P one_cost (Some e) first between old middle before during
@@ -37,12 +38,14 @@ walked_bind by functions levels act next P Q one_cost two_cost cost e ending fir
       count = omega arith;
       proper = two.proper;
       locals = two.locals;
-      comes = λ more less. came_bind by.plan (act (around_of by.plan by.limit functions more)) (next (around_of by.plan by.limit functions more)) e between ending last old middle new before during now
+      comes = λ more less. came_bind by.plan (act (around_of by.plan by.limit functions more)) (next (around_of by.plan by.limit functions more)) e between
+          ending last old middle new before during now
           (one.comes more less) (two.comes more less);
     }
 
 -- a part that ends at once
-pub walked_end : {A H : Type 0} (by : Teller) (functions : List FunctionCode) (levels : ℕ) (P : Teller → A → Type 0) (cost : ℕ) (e : Ending A) (s : Frame) (m : Told) (before : H → List Asked → Type 0)
+pub walked_end : {A H : Type 0} (by : Teller) (functions : List FunctionCode) (levels : ℕ) (P : Teller → A → Type 0) (cost : ℕ) (e : Ending A) (s : Frame)
+    (m : Told) (before : H → List Asked → Type 0)
     → m.world.by ≡ by → IsProperEnding (P by) e → AreProper by s.locals
     → Walked by functions levels (λ a. Ends e s) P cost (Some e) s s m m before before
 walked_end by functions levels P cost e s m before same proper locals = record {
@@ -55,7 +58,8 @@ walked_end by functions levels P cost e s m before same proper locals = record {
 }
 
 -- a part after one that stopped does not come
-pub walked_stopped : {A B H : Type 0} (why : Stop) (by : Teller) (functions : List FunctionCode) (levels : ℕ) (act : Around → Act Frame A) (next : Around → A → Frame → Act Frame B)
+pub walked_stopped : {A B H : Type 0} (why : Stop) (by : Teller) (functions : List FunctionCode) (levels : ℕ) (act : Around → Act Frame A)
+    (next : Around → A → Frame → Act Frame B)
     (P : Teller → A → Type 0) (Q : Teller → B → Type 0) (one_cost cost : ℕ) (first last : Frame) (old new : Told) (before now : H → List Asked → Type 0)
     → Walked by functions levels act P one_cost (stopped why) first last old new before now
     → one_cost ≤ cost
@@ -76,7 +80,8 @@ walked_stopped stop.Memory by functions levels act next P Q one_cost cost first 
     }
 
 -- one part after another
-pub walked_then : {A B H : Type 0} (by : Teller) (functions : List FunctionCode) (levels : ℕ) (act : Around → Act Frame A) (next : Around → A → Frame → Act Frame B)
+pub walked_then : {A B H : Type 0} (by : Teller) (functions : List FunctionCode) (levels : ℕ) (act : Around → Act Frame A)
+    (next : Around → A → Frame → Act Frame B)
     (P : Teller → A → Type 0) (Q : Teller → B → Type 0) (one_cost two_cost cost : ℕ) (v : A) (ending : Option (Ending B)) (first between last : Frame)
     (old middle new : Told) (before during now : H → List Asked → Type 0)
     → Walked by functions levels act P one_cost (Some (Gives v)) first between old middle before during
@@ -84,7 +89,8 @@ pub walked_then : {A B H : Type 0} (by : Teller) (functions : List FunctionCode)
     → one_cost + two_cost ≤ cost
     → Walked by functions levels (λ a. and_then (act a) (next a)) Q cost ending first last old new before now
 walked_then by functions levels act next P Q one_cost two_cost cost v ending first between last old middle new before during now one two cheap =
-    walked_bind by functions levels act (λ a. on_value (next a)) P Q one_cost two_cost cost (Gives v) ending first between last old middle new before during now one two cheap
+    walked_bind by functions levels act (λ a. on_value (next a)) P Q one_cost two_cost cost (Gives v) ending first between last old middle new before during
+    now one two cheap
 
 -- an act that is the same, and costs less
 pub walked_as : {A H : Type 0} (by : Teller) (functions : List FunctionCode) (levels : ℕ) (act other : Around → Act Frame A)
@@ -118,7 +124,8 @@ walked_within by functions levels inner go P cost ending s first last old new be
   count = one.count;
   proper = one.proper;
   locals = one.locals;
-  comes = λ more less. subst (λ n. Came by.plan (within n s (go (around_of by.plan by.limit functions more))) ending last old new before now) (sym is) (one.comes more (inner_less levels inner more is less));
+  comes = λ more less. subst (λ n. Came by.plan (within n s (go (around_of by.plan by.limit functions more))) ending last old new before now) (sym is)
+      (one.comes more (inner_less levels inner more is less));
 }
 
 -- no level is left
@@ -131,7 +138,8 @@ walked_depth {A = A} {H = H} by functions levels go P cost s m before is same lo
     (walked_end {A = A} {H = H} by functions levels P cost (Fails Depth) s m before same tt locals)
 
 -- the walk may go on with what is left after a part
-pub ready_after : {A H : Type 0} (code : Code) (uses rest : Uses) (cost one_cost rest_cost : ℕ) (functions : List FunctionCode) (levels : ℕ) (act : Around → Act Frame A)
+pub ready_after : {A H : Type 0} (code : Code) (uses rest : Uses) (cost one_cost rest_cost : ℕ) (functions : List FunctionCode) (levels : ℕ)
+    (act : Around → Act Frame A)
     (P : Teller → A → Type 0) (ending : Option (Ending A)) (first last : Frame) (old new : Told) (before now : H → List Asked → Type 0)
     → IsReady code old.world uses cost first
     → Walked old.world.by functions levels act P one_cost ending first last old new before now
@@ -167,7 +175,8 @@ all_second P [] ys all = all
 all_second P (x ∷ xs) ys all = all_second P xs ys all.1
 
 -- memory is wanting before anything came
-pub walked_lost : {A H : Type 0} (by : Teller) (functions : List FunctionCode) (levels : ℕ) (act : Around → Act Frame A) (P : Teller → A → Type 0) (cost : ℕ) (first last : Frame) (m : Told) (before : H → List Asked → Type 0)
+pub walked_lost : {A H : Type 0} (by : Teller) (functions : List FunctionCode) (levels : ℕ) (act : Around → Act Frame A) (P : Teller → A → Type 0) (cost : ℕ)
+    (first last : Frame) (m : Told) (before : H → List Asked → Type 0)
     → m.world.by ≡ by → last.turns ≤ first.turns → AreProper by last.locals
     → Walked by functions levels act P cost None first last m m before before
 walked_lost by functions levels act P cost first last m before same fewer locals = record {

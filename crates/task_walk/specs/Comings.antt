@@ -46,8 +46,8 @@ Does plan (Asks site b operands act) (Answer t c vs o ∷ es) ending last =
 Does plan (Draws act) (Drawn n ∷ es) ending last = Does plan (act n) es ending last
 Does _ _ _ ending last = ⊥
 
--- From one moment to another the act was done: it came to this ending, where there is one, and state; and the operations
--- came after those that were answered before.
+-- From one moment to another the act was done: it came to this ending, where there is one, and state; and the
+-- operations came after those that were answered before.
 pub record Came {S A H : Type 0} (plan : Plan) (act : Act S A) (ending : Option (Ending A)) (last : S) (old new : Told)
     (before now : H → List Asked → Type 0) : Type 0 where
   pub events : List Event

@@ -14,15 +14,19 @@ pub record Onward {S A H : Type 0} (plan : Plan) (whole : Act S A) (old : Told) 
   pub events : List Event
   pub is : now ≡ after events old
   pub asked : Onto before during (asked_in events)
-  pub goes : (more : List Event) (e : Ending A) (last : S) → Does plan act more e last → Does plan whole (events ++ more) e last
+  pub goes : (more : List Event) (e : Ending A) (last : S) → Does plan act more e last
+      → Does plan whole (events ++ more) e last
 
 -- The walk did a whole as far as this rest, which costs so much.
-pub record Going {A H : Type 0} (by : Teller) (functions : List FunctionCode) (levels : ℕ) (whole : Around → Act Frame A)
+pub record Going {A H : Type 0} (by : Teller) (functions : List FunctionCode) (levels : ℕ)
+    (whole : Around → Act Frame A)
     (cost : ℕ) (first : Frame) (old : Told) (before : H → List Asked → Type 0)
-    (rest : Around → Act Frame A) (rest_cost : ℕ) (frame : Frame) (now : Told) (during : H → List Asked → Type 0) : Type 0 where
+    (rest : Around → Act Frame A) (rest_cost : ℕ) (frame : Frame) (now : Told)
+    (during : H → List Asked → Type 0) : Type 0 where
   pub same : now.world.by ≡ by
   pub fewer : frame.turns ≤ first.turns
   pub count : now.world.count + rest_cost + frame.turns * most_asked ≤ old.world.count + cost + first.turns * most_asked
   pub locals : AreProper by frame.locals
   pub goes : (more : ℕ) → levels ≤ more
-      → Onward by.plan (whole (around_of by.plan by.limit functions more)) old before (rest (around_of by.plan by.limit functions more)) now during
+      → Onward by.plan (whole (around_of by.plan by.limit functions more)) old before
+      (rest (around_of by.plan by.limit functions more)) now during

@@ -4,3 +4,5 @@ pub mod Plans
 pub mod Parts
 pub mod Walks
 pub mod Goings
+pub mod Deeds
+pub mod Runs

@@ -1,5 +1,6 @@
 -- What parts of code do as the walk goes through them.
-use Rattle.std.specs.Prelude.{◌≡◌, ℕ, ◌∷◌, length, drop, slice_get, zero, suc, ◌<◌, nat_lt, Bool, true, false, if◌then◌else◌, List, [], map, Option, None, Some}
+use Rattle.std.specs.Prelude.{◌≡◌, ℕ, ◌∷◌, length, take, drop, slice_get, zero, suc, ◌+◌, ◌<◌, nat_lt, Bool, true}
+use Rattle.std.specs.Prelude.{false, if◌then◌else◌, List, [], map, Option, None, Some}
 use Rattle.std.specs.List.{position}
 use Rattle.std.specs.Str.{bytes_eq}
 use Rattle.dyn_value.specs.declared.fault.Fault.TheVariants.{HeapFull, Depth}
@@ -16,8 +17,10 @@ use Rattle.task_code.specs.declared.frame.Flow.TheVariants.{Next}
 use Rattle.task_code.specs.declared.code.Steps.{Steps}
 use Rattle.task_code.specs.declared.frame.Frame.{Frame}
 use Rattle.task_code.specs.Acts.{Act, at_name, Asks, Draws, gives, fails, and_then, within}
-use Rattle.task_code.specs.Codes.{Around, Evaluates, Reads, node_act, head_step, suffix_step, node_step, operands_act, asks, binder_at, info_at, invoked, created, body_act, block_act, with_put}
-use Rattle.task_code.specs.Costs.{Uses, node_cost, node_uses, head_costs, suffix_costs, node_costs, head_used, suffix_used, node_used, steps_cost, steps_uses}
+use Rattle.task_code.specs.Codes.{Around, Evaluates, Reads, node_act, head_step, suffix_step, node_step, operands_act}
+use Rattle.task_code.specs.Codes.{asks, binder_at, info_at, invoked, created, body_act, block_act, with_put}
+use Rattle.task_code.specs.Costs.{Uses, node_cost, node_uses, head_costs, suffix_costs, node_costs, head_used}
+use Rattle.task_code.specs.Costs.{suffix_used, node_used, steps_cost, steps_uses}
 use Rattle.task_walk.specs.declared.part.Part.{Part}
 use Rattle.task_walk.specs.Tales.{Teller, AreProper}
 
@@ -50,7 +53,8 @@ part_uses p = node_uses p.node.now
 
 -- an operation on what parts come to
 abbrev pub operation_act : Around → ℕ → List Part → ℕ → Frame → Act Frame Value
-operation_act a site parts levels s = and_then (operands_act [] (map (part_act a) parts) levels s) (λ operands after. asks a.plan site operands after)
+operation_act a site parts levels s =
+    and_then (operands_act [] (map (part_act a) parts) levels s) (λ operands after. asks a.plan site operands after)
 
 -- the turns that an operation counts: one where it is on an object
 abbrev pub turn_cost : Option OnObject → ℕ
@@ -65,6 +69,10 @@ is_truth _ = false
 -- so many proper values
 abbrev pub AreValues : ℕ → Teller → List Value → Type 0
 AreValues count by vs = (length vs ≡ count) × AreProper by vs
+
+-- so many proper values after these
+abbrev pub AreAfter : List Value → ℕ → Teller → List Value → Type 0
+AreAfter done count by vs = AreValues (length done + count) by vs × (take (length done) vs ≡ done)
 
 -- what a suffix does, uses and costs
 abbrev pub suffix_act : Around → NodeSuffix → Reads
@@ -115,4 +123,5 @@ by_place_or_name None place named = at_name place named
 
 -- the value for a parameter: the argument of its place, else the one of its name
 abbrev pub argument_of : List ℕ → ℕ → List Value → List (List ℕ) → List Value → Value
-argument_of param place by_place names named = by_place_or_name (slice_get by_place place) (position (bytes_eq param) names) named
+argument_of param place by_place names named =
+    by_place_or_name (slice_get by_place place) (position (bytes_eq param) names) named

@@ -9,4 +9,5 @@ params_in f = f.params
 
 -- what operations are made by: the code's binders, the number of each site's binder, and the functions' parameters
 abbrev pub plan_of : Code → Plan
-plan_of code = record { binders = code.binders.now; sites = code.sites.now; functions = map params_in code.functions.now }
+plan_of code =
+    record { binders = code.binders.now; sites = code.sites.now; functions = map params_in code.functions.now }

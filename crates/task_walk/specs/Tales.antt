@@ -1,5 +1,6 @@
 -- What a world tells: for whom it answers, and what it answered.
-use Rattle.std.specs.Prelude.{◌≡◌, ℕ, ◌+◌, ◌^◌, ◌<◌, ◌≤◌, nat_eq, true, if◌then◌else◌, List, [], ◌∷◌, ◌++◌, length, get_or, encode_utf8_all, Option, None, Some}
+use Rattle.std.specs.Prelude.{◌≡◌, ℕ, ◌+◌, ◌^◌, ◌<◌, ◌≤◌, nat_eq, true, if◌then◌else◌, List, [], ◌∷◌, ◌++◌, length}
+use Rattle.std.specs.Prelude.{get_or, encode_utf8_all, Option, None, Some}
 use Rattle.std.specs.List.{AllByRecursion}
 use Rattle.std.proofs.Math.Utf8.{scalars}
 use Rattle.dyn_value.specs.declared.entry.Entry.{Entry}
@@ -21,7 +22,8 @@ pub record Teller : Type 0 where
   pub task : ℕ
   pub limit : ℕ
 
--- what a world tells: for each object the entries that it added, the numbers that it drew, and how often it answered and drew
+-- what a world tells: for each object the entries that it added, the numbers that it drew, and how often it answered
+-- and drew
 pub record Tale : Type 0 where
   pub by : Teller
   pub entries : ℕ → List Entry

@@ -1,5 +1,6 @@
 -- What the walk over code needs, and what it does.
-use Rattle.std.specs.Prelude.{◌≡◌, ℕ, ◌+◌, ◌*◌, ◌^◌, ◌<◌, ◌≤◌, List, length, Result, Ok, Err, Option, None, Some, IfSome}
+use Rattle.std.specs.Prelude.{◌≡◌, ℕ, ◌+◌, ◌*◌, ◌^◌, ◌<◌, ◌≤◌, List, length, Result, Ok, Err, Option, None, Some}
+use Rattle.std.specs.Prelude.{IfSome}
 use Rattle.std.specs.List.{AllByRecursion}
 use Rattle.task_code.specs.declared.code.FunctionCode.{FunctionCode}
 use Rattle.task_code.specs.declared.frame.Flow.{Flow}
@@ -41,8 +42,8 @@ pub record IsFor (code : Code) (by : Teller) : Type 0 where
   pub bodies : AllByRecursion (IsBody by.plan by.limit) code.functions.now
   pub limit : by.limit ≤ 4096
 
--- The walk over code that uses this and asks so much without a turn may go on from this frame: the world was not asked too
--- often.
+-- The walk over code that uses this and asks so much without a turn may go on from this frame: the world was not asked
+-- too often.
 pub record IsReady (code : Code) (tale : Tale) (uses : Uses) (cost : ℕ) (frame : Frame) : Type 0 where
   pub world : IsFor code tale.by
   pub fits : Fits tale.by.plan tale.by.limit uses
@@ -58,8 +59,8 @@ abbrev pub IsProperEnding : {A : Type 0} → (A → Type 0) → Ending A → Typ
 IsProperEnding P (Gives a) = P a
 IsProperEnding P (Fails f) = IsProperFault f
 
--- The walk did an act from one frame to another: the world answers for the same code; for each turn that was counted, it was
--- asked at most so often more, beside the cost; what it came to is proper; and what came is what the act does.
+-- The walk did an act from one frame to another: the world answers for the same code; for each turn that was counted,
+-- it was asked at most so often more, beside the cost; what it came to is proper; and what came is what the act does.
 pub record Walked {A H : Type 0} (by : Teller) (functions : List FunctionCode) (levels : ℕ) (act : Around → Act Frame A)
     (P : Teller → A → Type 0) (cost : ℕ) (ending : Option (Ending A)) (first last : Frame) (old new : Told)
     (before now : H → List Asked → Type 0) : Type 0 where

@@ -8,16 +8,16 @@ use dyn_value::{DynText, Value};
 use sqlite_items::{Items, at};
 use std::alloc::{AllocError, Global};
 
-/// For each parameter the value of a call's argument: a positional one by its place, else the one of its name, else nil. The
-/// named arguments stand last, in the order of these names.
+/// For each parameter the value of a call's argument: a positional one by its place, else the one of its name, else
+/// nil. The named arguments stand last, in the order of these names.
 pub fn place_values(
     alloc: Global,
     params: &[DynText],
     names: &[DynText],
     args: &[Value],
 ) -> Result<Items<Value>, AllocError>
-    ensures values { IfOk result (λ vs. vs ≡ placed params.now names.now (take (length args.now - length names.now) args.now)
-        (drop (length args.now - length names.now) args.now)) }
+    ensures values { IfOk result (λ vs. vs ≡ placed params.now names.now
+        (take (length args.now - length names.now) args.now) (drop (length args.now - length names.now) args.now)) }
     ensures proper { (by : Teller) → AreProper by args.now → IfOk result (AreProper by) }
 {
     let (by_place, named) = args.split_at(args.len().saturating_sub(names.len()));
@@ -38,7 +38,8 @@ fn argument_value(
     named: &[Value],
 ) -> Result<Value, AllocError>
     ensures value { IfOk result (λ v. v ≡ argument_of param.now place by_place.now names.now named.now) }
-    ensures proper { (by : Teller) → AreProper by by_place.now → AreProper by named.now → IfOk result (IsProperValue by) }
+    ensures proper { (by : Teller) → AreProper by by_place.now → AreProper by named.now
+        → IfOk result (IsProperValue by) }
 {
     match at(by_place, place) {
         Some(value) => value.copy(),

@@ -1,16 +1,19 @@
-//! What the walk over the code of tasks stands on: the World that answers its operations, and what it does that asks
-//! no further code.
+//! The walk over the code of tasks, and the World that answers its operations.
 #![tactic(auto)]
 
 mod arguments;
+mod calls;
 mod caught;
 mod code;
 mod counts;
 mod ended;
+mod expressions;
 mod locals;
 mod operations;
 mod part;
 mod printed;
+mod running;
+mod statements;
 mod stop;
 #[cfg(test)]
 mod tests;
@@ -25,5 +28,6 @@ pub use locals::{local_value, put_local};
 pub use operations::{ask, draw_object};
 pub use part::Part;
 pub use printed::Printed;
+pub use running::run_code;
 pub use stop::Stop;
 pub use world::World;

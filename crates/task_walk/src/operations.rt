@@ -15,8 +15,8 @@ use std::alloc::Global;
 use std::sync::Wait;
 use task_code::Frame;
 
-/// Asks for the operation of a site on these operands; one on an object counts a turn before. The answer is the operation's value,
-/// or its fault, or `Turns` where none is left.
+/// Asks for the operation of a site on these operands; one on an object counts a turn before. The answer is the
+/// operation's value, or its fault, or `Turns` where none is left.
 pub fn ask<R: Wait, W: World>(
     rt: &R,
     alloc: Global,

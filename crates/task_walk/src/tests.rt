@@ -1,10 +1,22 @@
-use crate::{catches, local_value, place_values, put_local, text_of};
-use dyn_value::{DynText, Fault, Kind, Value};
-use sqlite_items::Items;
-use std::alloc::Global;
-use std::test::Fail;
+ghost use Rattle.std.specs.Prelude.{◌≡◌, [], length, IfOk};
+ghost use Rattle.task_code.specs.Costs.{steps_cost, steps_uses};
 
-/// Names of parameters, names of the last arguments, the arguments, and the values of the parameters; -1 stands for nil.
+mod silent;
+
+use crate::{
+    Code, Ended, Printed, catches, local_value, place_values, put_local, run_code, text_of,
+};
+use dyn_value::{DynText, Fault, Kind, Value};
+use silent::Silent;
+use sqlite_items::Items;
+use standard_binders::Binder;
+use std::alloc::{AllocError, Global};
+use std::sync::Wait;
+use std::test::Fail;
+use task_code::{Step, Steps};
+
+/// Names of parameters, names of the last arguments, the arguments, and the values of the parameters; -1 stands for
+/// nil.
 static CALLS: [(&[&str], &[&str], &[i64], &[i64]); 8] = [
     (&[], &[], &[], &[]),
     (&["a"], &[], &[1], &[1]),
@@ -16,7 +28,8 @@ static CALLS: [(&[&str], &[&str], &[i64], &[i64]); 8] = [
     (&["a", "b"], &[], &[1], &[1, -1]),
 ];
 
-/// Locals that are set one after the other, each by its number and value, and what stands there then; -1 stands for nil.
+/// Locals that are set one after the other, each by its number and value, and what stands there then; -1 stands for
+/// nil.
 static LOCALS: [(&[(u32, i64)], &[i64]); 5] = [
     (&[], &[]),
     (&[(0, 1)], &[1]),
@@ -97,5 +110,49 @@ fn texts_of_caught_faults(rt: HostRuntime) -> Result<(), Fail> {
     let alloc = rt.alloc();
     assert!(rt; text_of(alloc, &Fault::NoOperator)?.as_str() == "NoOperator");
     assert!(rt; text_of(alloc, &Fault::NotCallable(Kind::Int))?.as_str() == "NotCallable Int");
+    Ok(())
+}
+
+/// So many blocks, each the first one of a `try` in the next.
+fn nested(alloc: Global, count: u32) -> Result<Steps, AllocError>
+    ensures uses { IfOk result (λ b. steps_uses b ≡ []) }
+    ensures cost { IfOk result (λ b. steps_cost b ≡ 0) }
+{
+    let mut block = Steps(Items::new(alloc));
+    'nesting: for _ in 0..count {
+        let mut outer = Items::new(alloc);
+        outer.push(Step::Try {
+            body: block,
+            local: 0,
+            caught: Steps(Items::new(alloc)),
+        })?;
+        block = Steps(outer);
+    }
+    Ok(block)
+}
+
+/// Whether the task ended by `Depth`, with this many blocks one in the other.
+fn is_too_deep<R: Wait>(rt: &R, alloc: Global, code: &Code, count: u32) -> Result<bool, AllocError>
+    requires sites { length code.now.sites.now ≡ 1 }
+    requires functions { code.now.functions.now ≡ [] }
+{
+    let mut world = Silent { code: *code };
+    let mut printed = Printed::new(alloc);
+    let body = nested(alloc, count)?;
+    let ended = run_code(rt, alloc, code, &body, 0, &mut world, &mut printed)?;
+    Ok(matches!(ended, Ended::Faulted(Fault::Depth)))
+}
+
+#[test]
+fn blocks_open_levels_and_depth_is_not_caught(rt: HostRuntime) -> Result<(), Fail> {
+    let alloc = rt.alloc();
+    let code = Code {
+        binders: &[Binder::GetIndex],
+        sites: &[0],
+        functions: &[],
+    };
+    assert!(rt; !is_too_deep(&rt, alloc, &code, 0)?);
+    assert!(rt; !is_too_deep(&rt, alloc, &code, 256)?);
+    assert!(rt; is_too_deep(&rt, alloc, &code, 257)?);
     Ok(())
 }

@@ -4,13 +4,14 @@ use std::sync::Wait;
 
 /// What answers the operations of one task.
 ///
-/// `tale` is what it tells: for whom it answers, what it added and drew, and how often. `answered` says that in a home, such as
-/// an engine's state, it has answered these operations, in their order; so a caller that knows the home keeps them, and
-/// no list of them is held in memory.
+/// `tale` is what it tells: for whom it answers, what it added and drew, and how often. `answered` says that in a home,
+/// such as an engine's state, it has answered these operations, in their order; so a caller that knows the home keeps
+/// them, and no list of them is held in memory.
 pub trait World {
     ghost use Rattle.std.specs.Prelude.{◌≡◌, ◌<◌, ◌≤◌, ◌^◌, ℕ, List, [], ◌∷◌, length, IfOk, OnOk, OnErr, MatchOption};
     ghost use Rattle.task_code.specs.Fits.{IsSite};
-    ghost use Rattle.task_walk.specs.Tales.{Tale, Asked, asked, Answers, AreProper, IsProperAnswer, tale_drawn, Onto, Stays};
+    ghost use Rattle.task_walk.specs.Tales.{Tale, Asked, asked, Answers, AreProper, IsProperAnswer, tale_drawn, Onto};
+    ghost use Rattle.task_walk.specs.Tales.{Stays};
 
     /// Where a world answers.
     type Home;
@@ -36,8 +37,8 @@ pub trait World {
         ensures refused { OnErr result (tale self.new ≡ tale self.old) }
         ensures kept { OnErr result (Stays (answered self.old) (answered self.new)) };
 
-    /// Draws the number of a new object; `None` where there may be no object of that number. Where memory is refused, no
-    /// number is drawn.
+    /// Draws the number of a new object; `None` where there may be no object of that number. Where memory is refused,
+    /// no number is drawn.
     fn draw(&mut self) -> Result<Option<u32>, AllocError>
         requires few { (tale self.old).count < 2 ^ 60 }
         ensures drawn { IfOk result (λ o. (n : ℕ) × ((tale self.new ≡ tale_drawn n (tale self.old))

@@ -17,7 +17,8 @@ loop-place-preserved c =
     let less : i < length params = omega arith in
     let rest : List Value = placed (drop (i + 1) params) names (drop (i + 1) front) back in
     let next : placed (drop i params) names (drop i front) back ≡ v ∷ rest =
-    placed_next params names front back i c.index-params-place.result less c.index-params-place.is ∙ ap (λ (x : Value). x ∷ rest) (sym c.in_ok-value.ensures.value) in
+    placed_next params names front back i c.index-params-place.result less c.index-params-place.is ∙ ap (λ (x : Value). x ∷ rest)
+    (sym c.in_ok-value.ensures.value) in
     record {
       values = ap (λ (xs : List Value). xs ++ rest) c.in_ok-push.ensures.ok ∙ append_assoc c.loop-place.values (v ∷ []) rest
           ∙ ap (λ (ys : List Value). c.loop-place.values ++ ys) (sym next) ∙ c.loop-place.invariant.values;

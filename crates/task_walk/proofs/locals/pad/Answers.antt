@@ -10,7 +10,8 @@ padding-preserved c =
     let less : length c.padding.locals < c.args.count = omega arith in
     record {
       same = λ v. ap (put c.args.count v) c.in_ok-push.ensures.ok ∙ put_short c.args.count v c.padding.locals less ∙ c.padding.invariant.same v;
-      proper = λ by had. subst (AreProper by) (sym c.in_ok-push.ensures.ok) (all_push (IsProperValue by) c.padding.locals value.Nil (c.padding.invariant.proper by had) tt);
+      proper = λ by had. subst (AreProper by) (sym c.in_ok-push.ensures.ok) (all_push (IsProperValue by) c.padding.locals value.Nil
+          (c.padding.invariant.proper by had) tt);
     }
 
 pub returns-in_err-push-clause-proper : goal.returns-in_err-push-clause-proper

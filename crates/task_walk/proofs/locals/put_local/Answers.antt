@@ -22,4 +22,5 @@ returns-else-place-len-clause-put c =
 
 pub returns-else-place-len-clause-proper : goal.returns-else-place-len-clause-proper
 returns-else-place-len-clause-proper c = λ by had here.
-    all_pushed (IsProperValue by) c.push.result c.pad.new.locals c.push.new.self c.args.value c.push.ensures.ok c.push.ensures.err (c.pad.ensures.proper by had) here
+    all_pushed (IsProperValue by) c.push.result c.pad.new.locals c.push.new.self c.args.value c.push.ensures.ok c.push.ensures.err
+    (c.pad.ensures.proper by had) here

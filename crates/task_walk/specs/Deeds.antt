@@ -1,6 +1,5 @@
 -- What a task does, whatever it does it with.
-use Rattle.std.specs.Prelude.{ℕ, Option, None, Some}
-use Rattle.dyn_value.specs.declared.fault.Fault.{Fault}
+use Rattle.std.specs.Prelude.{Option, None, Some}
 use Rattle.task_code.specs.Acts.{Ending, Gives, Fails, Act, Ends, bind}
 use Rattle.task_walk.specs.declared.ended.Ended.{Ended}
 use Rattle.task_walk.specs.declared.ended.Ended.TheVariants as ended
