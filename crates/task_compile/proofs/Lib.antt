@@ -8,7 +8,10 @@ mod ExpressionCases
 mod ExpressionFolds
 mod HeadForms
 mod LocalNumbers
+mod Pairs
+mod PlanBinders
 mod RunForms
+mod ScriptForms
 mod ShorterLists
 mod SitePlaces
 mod StatementCases
@@ -18,3 +21,4 @@ mod StepRows
 mod SuffixRows
 mod TargetCases
 mod TargetForms
+mod WrittenItems

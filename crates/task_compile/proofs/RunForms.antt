@@ -22,7 +22,7 @@ use Rattle.task_compile.specs.Executions.{block_part}
 use Rattle.task_compile.specs.Agreements.{cut, state_of}
 use Rattle.task_compile.specs.Compiled.{HasBinders, given_in}
 use Rattle.task_compile.specs.CompiledBlocks.{IsSteps}
-use Rattle.task_compile.specs.CompiledScripts.{AreFunctionsOf, DoesTask, IsFunctionCode, IsFunctionOf, items_of}
+use Rattle.task_compile.specs.CompiledScripts.{AreFunctionsOf, DoesTask, IsBoth, IsFunctionCode, items_of}
 use Rattle.task_compile.specs.Runs.{body_act, body_ends, calls_of, function_act, function_site, given_by, task_act, task_site}
 use Rattle.task_compile.proofs.Agreement.{bind_bind}
 
@@ -51,7 +51,7 @@ module _ (plan : Plan) (script : Script) (codes : List FunctionCode) (limit : �
   given_alike : (more : ℕ) → calls_of script limit more ≡ code.calls_of plan limit codes more → given_by script limit (calls_of script limit more) ≡ given_in (items_of script) (around_of plan limit codes more)
   given_alike more same = ap (given_by script limit) same
 
-  function_alike : (site more : ℕ) (f : Option Function) (c : Option FunctionCode) → IsFunctionOf plan (items_of script) site f c → calls_of script limit more ≡ code.calls_of plan limit codes more
+  function_alike : (site more : ℕ) (f : Option Function) (c : Option FunctionCode) → IsBoth (IsFunctionCode plan (items_of script) site) f c → calls_of script limit more ≡ code.calls_of plan limit codes more
       → (info : Arguments) (args : List Value) (levels turns : ℕ)
       → function_act (given_by script limit (calls_of script limit more)) site f info args levels turns ≡ code.function_act (around_of plan limit codes more) c info args levels turns
   function_alike site more None None is same info args levels turns = refl
@@ -62,8 +62,8 @@ module _ (plan : Plan) (script : Script) (codes : List FunctionCode) (limit : �
       ∙ value_alike f.params
       ((block_part (given_in (items_of script) (around_of plan limit codes more)) f.body).from site levels (state_of f.params (record { turns = turns; locals = values_of f.params info args })))
       (code.body_act (around_of plan limit codes more) c.body levels (record { turns = turns; locals = values_of f.params info args }))
-      (is.body.same (around_of plan limit codes more) is.binders levels (record { turns = turns; locals = values_of f.params info args }))
-      ∙ ap (λ z. bind (code.body_act (around_of plan limit codes more) c.body levels (record { turns = turns; locals = values_of z info args })) code.body_ends) (sym is.params)
+      (is.code.body.same (around_of plan limit codes more) is.binders levels (record { turns = turns; locals = values_of f.params info args }))
+      ∙ ap (λ z. bind (code.body_act (around_of plan limit codes more) c.body levels (record { turns = turns; locals = values_of z info args })) code.body_ends) (sym is.code.params)
 
   -- the functions do the same
   pub calls_alike : (more : ℕ) → calls_of script limit more ≡ code.calls_of plan limit codes more

@@ -29,7 +29,7 @@ rows_sites xs = flat_map (λ bs. bs) (map stmt_sites xs)
 abbrev pub rows_tokens : List Stmt → Tokens
 rows_tokens xs = flat_map (λ ts. ts) (map spell_stmt xs)
 
-take_front : (scope more : Names) → take (length scope) (scope ++ more) ≡ scope
+pub take_front : (scope more : Names) → take (length scope) (scope ++ more) ≡ scope
 take_front [] more = refl
 take_front (n ∷ scope) more = ap (λ z. n ∷ z) (take_front scope more)
 
@@ -92,6 +92,11 @@ module _ (items : ItemNames) where
   scope_left xs steps scope site next after are =
       let grown = rows_scope xs steps scope site next after are in
       ap (take (length scope)) grown.1 ∙ take_front scope grown.0
+
+  pub scope_within : (xs : List Stmt) (steps : List Step) (scope : Names) (site next : ℕ) (after : Names) → AreSteps items scope site xs steps next after → length scope ≤ length after
+  scope_within xs steps scope site next after are =
+      let grown = rows_scope xs steps scope site next after are in
+      omega (arith, ap length grown.1, length-append scope grown.0)
 
   -- one more statement
   pub one_more_step : (xs : List Stmt) (steps : List Step) (x : Stmt) (n : Step) (scope : Names) (site next : ℕ) (after : Names) → AreSteps items scope site xs steps next after → IsStep items after next x n

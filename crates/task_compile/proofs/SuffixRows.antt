@@ -5,7 +5,7 @@ use Rattle.std.specs.List.{flat_map}
 use Rattle.dyn_value.specs.declared.value.Value.{Value}
 use Rattle.script_grammar.specs.declared.tree.Expr.{Expr}
 use Rattle.script_grammar.specs.declared.tree.Suffix.{Suffix}
-use Rattle.script_grammar.specs.Spelling.{Tokens, head_spelling, suffix_spelling, arg_spelling, expr_spelling}
+use Rattle.script_grammar.specs.Spelling.{Tokens, head_spelling, suffix_spelling, arg_spelling, expr_spelling, spell_head, spell_suffix}
 use Rattle.script_sites.specs.Sites.{Argument, Binders, argument_of, head_sites, layer_sites, sites_of_head, sites_of_suffix, suffix_sites}
 use Rattle.task_code.specs.declared.code.Node.{Node}
 use Rattle.task_code.specs.declared.code.NodeHead.{NodeHead}
@@ -20,7 +20,7 @@ use Rattle.task_compile.specs.declared.names.ItemNames.{ItemNames}
 use Rattle.task_compile.specs.States.{Names, State, Given}
 use Rattle.task_compile.specs.Evaluations.{Evaluates, Reads, ArgPart, arg_part, head_part, layer_part, part_of_head, part_of_suffix, suffix_part, suffixes_part}
 use Rattle.task_compile.specs.Agreements.{Agrees}
-use Rattle.task_compile.specs.Compiled.{AreSuffixes, Code, Evaluation, HasBinders, HasItems, IsEvaluation, IsHead, IsNode, IsSuffix, code_of_head, code_of_node, code_of_suffix, given_in, spell_head, spell_suffix, suffix_act, suffix_cost, suffix_uses, tree_of_expr, tree_of_head, tree_of_suffix}
+use Rattle.task_compile.specs.Compiled.{AreSuffixes, Code, Evaluation, HasBinders, HasItems, IsEvaluation, IsHead, IsNode, IsSuffix, code_of_head, code_of_node, code_of_suffix, given_in, suffix_act, suffix_cost, suffix_uses, tree_of_expr, tree_of_head, tree_of_suffix}
 use Rattle.task_compile.proofs.Agreement.{agrees_then}
 use Rattle.task_compile.proofs.ArgumentForms.{sum_cons}
 use Rattle.task_compile.proofs.ExpressionFolds.{expr_is, node_is}

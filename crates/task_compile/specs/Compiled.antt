@@ -12,8 +12,7 @@ use Rattle.script_grammar.specs.declared.tree.Expr.{Expr}
 use Rattle.script_grammar.specs.declared.tree.Head.{Head}
 use Rattle.script_grammar.specs.declared.tree.Head.TheVariants as head
 use Rattle.script_grammar.specs.declared.tree.Suffix.{Suffix}
-use Rattle.script_grammar.specs.declared.tree.Head.TheFolds.{fold-Head, fold-Suffix}
-use Rattle.script_grammar.specs.Spelling.{Tokens, head_spelling, suffix_spelling, arg_spelling, expr_spelling, spell_expr}
+use Rattle.script_grammar.specs.Spelling.{spell_expr, spell_head, spell_suffix}
 use Rattle.script_sites.specs.Sites.{expr_sites, sites_of_head, sites_of_suffix}
 use Rattle.task_code.specs.declared.code.Node.{Node}
 use Rattle.task_code.specs.declared.code.NodeHead.{NodeHead}
@@ -93,12 +92,6 @@ pub record IsReading (items : ItemNames) (scope : Names) (site : ℕ) (t : Readi
 
 abbrev pub tree_of_expr : Expr → Evaluation
 tree_of_expr e = record { part = λ given. expr_part given e; binders = expr_sites e; tokens = spell_expr e }
-
-abbrev pub spell_head : Head → Tokens
-spell_head h = fold-Head Tokens Tokens Tokens Tokens head_spelling suffix_spelling arg_spelling expr_spelling h
-
-abbrev pub spell_suffix : Suffix → Tokens
-spell_suffix x = fold-Suffix Tokens Tokens Tokens Tokens head_spelling suffix_spelling arg_spelling expr_spelling x
 
 abbrev pub tree_of_head : Head → Evaluation
 tree_of_head h = record { part = λ given. part_of_head given h; binders = sites_of_head h; tokens = spell_head h }

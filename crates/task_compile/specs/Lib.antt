@@ -5,4 +5,5 @@ pub mod CompiledScripts
 pub mod Evaluations
 pub mod Executions
 pub mod Runs
+pub mod ScriptCodes
 pub mod States

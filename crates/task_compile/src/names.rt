@@ -1,12 +1,15 @@
-ghost use Rattle.std.specs.Prelude.{◌≡◌, ◌≤◌, ℕ, ◌++◌, ◌∷◌, [], length, take, IfOk, OnOk};
+ghost use Rattle.std.specs.Prelude.{◌≡◌, ◌≤◌, ℕ, ◌++◌, ◌∷◌, [], length, map, take, IfOk, OnOk};
 ghost use Rattle.std.specs.List.{position};
 ghost use Rattle.std.specs.Str.{bytes_eq};
 ghost use Rattle.task_compile.specs.Compiled.{IsHead, IsItemName};
+ghost use Rattle.task_compile.specs.CompiledScripts.{items_of};
+ghost use Rattle.task_compile.specs.Runs.{name_of};
 ghost use Rattle.script_grammar.specs.declared.tree.Head.TheVariants.{Name};
 
 use dyn_value::{DynText, Value};
+use script_grammar::{Function, Script};
 use sqlite_items::Items;
-use std::alloc::AllocError;
+use std::alloc::{AllocError, Global};
 use task_code::NodeHead;
 
 /// The names that items declare and that stand for values: those of the functions, and the shared ones.
@@ -43,6 +46,37 @@ impl Scope {
     {
         shorten(&mut self.locals, count);
     }
+}
+
+/// The names that the items of a script declare and that stand for values.
+pub(crate) fn item_names(alloc: Global, script: &Script) -> Result<ItemNames, AllocError>
+    ensures { IfOk result (λ items. items ≡ items_of script.now) }
+{
+    let functions = function_names(alloc, script.functions.as_slice())?;
+    let shared = copied(alloc, script.shared.as_slice())?;
+    Ok(ItemNames { functions, shared })
+}
+
+/// The names of functions, in order.
+fn function_names(alloc: Global, functions: &[Function]) -> Result<Items<DynText>, AllocError>
+    ensures { IfOk result (λ names. names ≡ map name_of functions.now) }
+{
+    let mut names = Items::new(alloc);
+    for function in functions {
+        names.push(function.name.copy()?)?;
+    }
+    Ok(names)
+}
+
+/// The same names.
+pub(crate) fn copied(alloc: Global, names: &[DynText]) -> Result<Items<DynText>, AllocError>
+    ensures { IfOk result (λ copies. copies ≡ names.now) }
+{
+    let mut copies = Items::new(alloc);
+    for name in names {
+        copies.push(name.copy()?)?;
+    }
+    Ok(copies)
 }
 
 /// The first names, so many.
