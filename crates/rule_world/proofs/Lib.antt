@@ -1,0 +1,7 @@
+mod Answered
+mod BoundRules
+mod Commits
+mod Entering
+mod PlainAnswers
+mod ShortFaults
+mod Worlds

@@ -1,0 +1,55 @@
+-- That what objects keep of themselves has at most one proof.
+use Rattle.std.specs.Prelude.{◌≡◌, ℕ, List, [], ◌∷◌, Option, None, Some}
+use Rattle.std.proofs.Props.{props}
+use Rattle.boxcar.specs.Table.{Shelves, Where}
+use Rattle.dyn_value.specs.declared.entry.Entry.{Entry}
+use Rattle.dyn_value.specs.declared.outcome.Outcome.{Outcome}
+use Rattle.dyn_value.specs.declared.value.Value.{Value}
+use Rattle.dyn_value.specs.declared.value.Value.TheVariants as value
+use Rattle.dyn_value.specs.Proper.{IsProperIn}
+use Rattle.expando_class.specs.declared.class.ClassRef.{ClassRef}
+use Rattle.expando_class.specs.declared.pass.ClassPass.{ClassPass}
+use Rattle.expando_class.specs.declared.table.ClassTable.{ClassTable}
+use Rattle.expando_class.specs.Class.{IsClassOf}
+use Rattle.expando_class.specs.Pass.{IsPassOf}
+use Rattle.expando_class.specs.Shown.{IsShownBy}
+use Rattle.standard_binders.specs.declared.binder.Binder.{Binder}
+use Rattle.standard_binders.specs.Functions.{Functions, HaveFewParameters}
+use Rattle.object_model.specs.Journals.{IsLegal, entry_step, left_by, outcome_by}
+use Rattle.object_model.specs.Members.{Members, AreProperIn}
+
+pub outcome_prop : (a b : Option Outcome) → IsProp (a ≡ b)
+outcome_prop a b = Prim.hlevel props
+
+pub legal_prop : (binders : List Binder) (ms : Members) (es : List Entry) → IsProp (IsLegal binders ms es)
+legal_prop binders ms [] = Prim.hlevel props
+legal_prop binders ms (e ∷ es) = λ p q i. (
+  outcome_prop (outcome_by (entry_step binders ms e)) (Some e.outcome) p.0 q.0 i,
+  legal_prop binders (left_by ms (entry_step binders ms e)) es p.1 q.1 i,
+)
+
+shown_prop : (classes : Shelves) (token : Option (Where (List (List ℕ)))) → IsProp (IsShownBy classes token)
+shown_prop classes None = Prim.hlevel props
+shown_prop classes (Some token) = Prim.hlevel props
+
+pub class_prop : (table : ClassTable) (class : ClassRef) → IsProp (IsClassOf table class)
+class_prop table class = shown_prop table.classes class.token
+
+pub pass_prop : (table : ClassTable) (pass : ClassPass) → IsProp (IsPassOf table pass)
+pass_prop table pass = λ p q i number class at. class_prop table class (p number class at) (q number class at) i
+
+pub value_prop : (functions objects : ℕ) (v : Value) → IsProp (IsProperIn functions objects v)
+value_prop functions objects value.Nil = Prim.hlevel props
+value_prop functions objects (value.Bool b) = Prim.hlevel props
+value_prop functions objects (value.Int n) = Prim.hlevel props
+value_prop functions objects (value.Text t) = Prim.hlevel props
+value_prop functions objects (value.Fun f) = Prim.hlevel props
+value_prop functions objects (value.Obj o) = Prim.hlevel props
+
+pub members_prop : (functions objects : ℕ) (ms : Members) → IsProp (AreProperIn functions objects ms)
+members_prop functions objects [] = Prim.hlevel props
+members_prop functions objects (m ∷ ms) = λ p q i.
+    (value_prop functions objects m.value p.0 q.0 i, members_prop functions objects ms p.1 q.1 i)
+
+pub few_prop : (functions : Functions) → IsProp (HaveFewParameters functions)
+few_prop functions = Prim.hlevel props
