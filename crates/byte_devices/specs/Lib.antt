@@ -1,0 +1,5 @@
+pub mod CallPlans
+pub mod Clean
+pub mod Devices
+pub mod Edges
+pub mod MemDevices
