@@ -8,8 +8,8 @@ use Rattle.std.proofs.lemmas.List.FromFn.{get_or-range_with_len, length-range_wi
 use Rattle.std.proofs.lemmas.Result.{on_ok_weaker, on_err_weaker}
 use Rattle.std.proofs.lemmas.Str.{encodes-append}
 use Rattle.object_model.specs.Members.{Member}
-use Rattle.program_eval.specs.Stores.{Begins}
-use Rattle.script_front.specs.declared.tree.Task.{Task}
+use Rattle.task_run.specs.Stores.{Begins}
+use Rattle.script_grammar.specs.declared.tree.Task.{Task}
 use Rattle.dlr_top.specs.declared.report.TaskEnd.{TaskEnd}
 use Rattle.dlr_top.specs.Rendering.{task_text, tasks_text, member_text, members_text}
 

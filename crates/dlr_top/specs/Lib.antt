@@ -1,13 +1,6 @@
-pub mod Bindings
-pub mod CallPlans
-pub mod Clean
-pub mod Commands
-pub mod Devices
-pub mod Edges
 pub mod Headline
 pub mod Lawful
-pub mod MemDevices
+pub mod Loads
+pub mod Refusals
 pub mod Rendering
-pub mod RowProps
-pub mod Rows
 pub mod TaskRuns

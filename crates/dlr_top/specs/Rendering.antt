@@ -12,15 +12,15 @@ use Rattle.standard_binders.specs.declared.binder.Binder.{Binder}
 use Rattle.standard_binders.specs.Binders.{binder_text}
 use Rattle.object_model.specs.Journals.{members_after}
 use Rattle.object_model.specs.Members.{Member, Members}
-use Rattle.program_eval.specs.declared.ended.Ended.{Ended}
-use Rattle.program_eval.specs.declared.ended.Ended.TheVariants.{Done, Faulted}
-use Rattle.script_front.specs.declared.program.Program.{Program}
-use Rattle.script_front.specs.declared.tree.Task.{Task}
-use Rattle.script_front.specs.Programs.{script_of, binders_of}
+use Rattle.task_walk.specs.declared.ended.Ended.{Ended}
+use Rattle.task_walk.specs.declared.ended.Ended.TheVariants.{Done, Faulted}
+use Rattle.script_program.specs.declared.program.Program.{Program}
+use Rattle.script_grammar.specs.declared.tree.Task.{Task}
+use Rattle.script_program.specs.Programs.{script_of, binders_of}
 use Rattle.dlr_top.specs.declared.report.TaskEnd.{TaskEnd}
 use Rattle.dlr_top.specs.declared.report.Report.{Report}
-use Rattle.dlr_top.specs.declared.words.Options.{Options}
-use Rattle.dlr_top.specs.Lawful.{limit_of, all_drawn, journal_at}
+use Rattle.command_words.specs.declared.words.Options.{Options}
+use Rattle.dlr_top.specs.Lawful.{all_drawn, journal_at}
 
 -- the text stands behind what was there, in UTF-8
 abbrev pub AddsText : Vec ℕ → Vec ℕ → List ℕ → Type 0
@@ -28,9 +28,6 @@ AddsText old new text = new.items ≡ old.items ++ encode_utf8_all text
 
 abbrev pub usage_text : List ℕ
 usage_text = codes "usage: dlr run [--serial] [--journal] [--stats] [--rules] [--turns N] [--objects N] | check | drill SEED\n"
-
-abbrev pub refusal_text : List ℕ
-refusal_text = codes "refused: NotBuilt\n"
 
 -- a printed line of a task
 abbrev pub line_text : List ℕ → List ℕ → List ℕ
@@ -89,9 +86,9 @@ object_text program report object =
     codes "object " ++ decimal object ++ codes "\n" ++ flat_map (entry_text program) (journal_at report.journals object)
     ++ codes "  members" ++ members_text (members_after (binders_of program) [] (journal_at report.journals object)) ++ codes "\n"
 
--- how many objects were shared or made
+-- how many objects were shared or made; the report has a journal for each that there may be
 abbrev pub object_count : Program → Report → ℕ
-object_count program report = min (limit_of program) (length (script_of program).shared + length (all_drawn report))
+object_count program report = min (length report.journals) (length (script_of program).shared + length (all_drawn report))
 
 -- the journals of the objects that were shared or made, in the order of their numbers
 abbrev pub journals_text : Program → Report → List ℕ

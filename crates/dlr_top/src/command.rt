@@ -1,18 +1,23 @@
-ghost use Rattle.std.specs.Prelude.{◌≡◌, ◌≢◌, ◌≤◌, ◌↔◌, ◌⊎◌, None, IsSome, IfSome};
-ghost use Rattle.script_front.specs.declared.tree.Script.{Script};
-ghost use Rattle.script_front.specs.Script.{IsScript};
-ghost use Rattle.dlr_top.specs.Commands.{command_of};
-ghost use Rattle.dlr_top.specs.Devices.{Rose, Adds, AddsFirst, IsReadThrough};
-ghost use Rattle.dlr_top.specs.Headline.{Reports};
-ghost use Rattle.dlr_top.specs.Rendering.{usage_text, refusal_text};
+ghost use Rattle.std.specs.Prelude.{◌≡◌, ◌≤◌, ◌↔◌, ◌⊎◌, List, ℕ, None, Some, IsSome, IfSome};
+ghost use Rattle.script_grammar.specs.declared.tree.Script.{Script};
+ghost use Rattle.script_program.specs.Scripts.{IsScript};
+ghost use Rattle.command_words.specs.declared.words.Command.TheVariants.{Run, Check};
+ghost use Rattle.command_words.specs.declared.words.Options.{Options};
+ghost use Rattle.command_words.specs.Commands.{command_of};
+ghost use Rattle.byte_devices.specs.Devices.{Rose, IsReadThrough};
+ghost use Rattle.dlr_top.specs.Headline.{Announced, Checked, Reports};
+ghost use Rattle.dlr_top.specs.Refusals.{Refused};
+ghost use Rattle.dlr_top.specs.Rendering.{usage_text};
 
-use crate::devices::{Sink, Source, Unwritten, deliver};
+use crate::announcing::{announce, announce_refusal};
+use crate::checking::check_only;
 use crate::gate::Gate;
 use crate::loading::{Unloaded, load};
 use crate::report::Report;
 use crate::run::execute;
 use crate::status;
-use crate::words::read_words;
+use byte_devices::{Sink, Source};
+use command_words::{Command, Options, read_words};
 use dyn_value::DynText;
 use std::alloc::Global;
 use std::sync::Wait;
@@ -21,9 +26,6 @@ use std::thread::Threads;
 /// What is written where the words are no command.
 const USAGE: &str =
     "usage: dlr run [--serial] [--journal] [--stats] [--rules] [--turns N] [--objects N] | check | drill SEED\n";
-
-/// What is written where the script is refused.
-const REFUSAL: &str = "refused: NotBuilt\n";
 
 /// How the command ended: its status, and the report where there is one.
 #[derive(Debug, Drop)]
@@ -70,57 +72,91 @@ pub fn top<R: Threads + Wait + Sync, S: Source, K: Sink, G: Gate>(
     // The words: where they are no command, nothing is read.
     ensures words_refused { result.status ≡ 2 → command_of words.now ≡ None }
     ensures words_taken { command_of words.now ≡ None → (result.status ≡ 2) ⊎ (result.status ≡ 3) }
-    ensures words_unread { command_of words.now ≡ None → (S.held source.new ≡ S.held source.old) × (S.faults source.new ≡ S.faults source.old) }
-    ensures usage { result.status ≡ 2 → AddsFirst (K.has sink.old) (K.has sink.new) usage_text }
-    ensures usage_whole { result.status ≡ 2 → (Rose (K.faults sink.old) (K.faults sink.new) → ⊥) → Adds (K.has sink.old) (K.has sink.new) usage_text }
+    ensures words_unread { command_of words.now ≡ None →
+        (S.held source.new ≡ S.held source.old) × (S.faults source.new ≡ S.faults source.old) }
+    ensures usage { result.status ≡ 2 →
+        Announced (K.has sink.old) (K.has sink.new) (K.faults sink.old) (K.faults sink.new) usage_text }
 
     // Want of memory, and a source that failed: nothing is written.
     ensures memory { result.status ≡ 3 → (K.has sink.new ≡ K.has sink.old) × (K.faults sink.new ≡ K.faults sink.old) }
     ensures source_failed { result.status ≡ 4 → Rose (S.faults source.old) (S.faults source.new) }
-    ensures source_unwritten { result.status ≡ 4 → (K.has sink.new ≡ K.has sink.old) × (K.faults sink.new ≡ K.faults sink.old) }
+    ensures source_unwritten { result.status ≡ 4 →
+        (K.has sink.new ≡ K.has sink.old) × (K.faults sink.new ≡ K.faults sink.old) }
 
     // The source was read to its end, or to the byte where reading stops.
-    ensures read_through { (result.status ≡ 0) ⊎ (result.status ≡ 1) ⊎ (result.status ≡ 5) ⊎ (result.status ≡ 6) → IsReadThrough (S.held source.old) (S.held source.new) }
+    ensures read_through { (result.status ≡ 0) ⊎ (result.status ≡ 1) ⊎ (result.status ≡ 5) ⊎ (result.status ≡ 6) →
+        IsReadThrough (S.held source.old) (S.held source.new) }
 
-    // The script is refused exactly where the bytes are none.
-    ensures refused { result.status ≡ 6 → IfSome (S.held source.old) (λ bytes. (script : Script) → IsScript bytes script → ⊥) }
-    ensures refuses { IsSome (command_of words.now) → (Rose (S.faults source.old) (S.faults source.new) → ⊥) → IfSome (S.held source.old) (λ bytes. ((script : Script) → IsScript bytes script → ⊥) → (result.status ≡ 6) ⊎ (result.status ≡ 3)) }
-    ensures refusal { result.status ≡ 6 → AddsFirst (K.has sink.old) (K.has sink.new) refusal_text }
-    ensures refusal_whole { result.status ≡ 6 → (Rose (K.faults sink.old) (K.faults sink.new) → ⊥) → Adds (K.has sink.old) (K.has sink.new) refusal_text }
+    // The script is refused exactly where the bytes are none, and the line tells the cause and its place.
+    ensures refused { result.status ≡ 6 →
+        Refused (S.held source.old) (K.has sink.old) (K.has sink.new) (K.faults sink.old) (K.faults sink.new) }
+    ensures refuses { IsSome (command_of words.now) → (Rose (S.faults source.old) (S.faults source.new) → ⊥) →
+        IfSome (S.held source.old) (λ bytes. ((script : Script) → IsScript bytes script → ⊥) →
+        (result.status ≡ 6) ⊎ (result.status ≡ 3)) }
 
     // The headline: a lawful report of the script that was read, which is that of its tasks one after the other,
     // and its text in the sink.
-    ensures reported { IsSome result.report ↔ ((result.status ≡ 0) ⊎ (result.status ≡ 1) ⊎ (result.status ≡ 5)) }
-    ensures report { IfSome result.report (λ report. Reports result.status words.now (S.held source.old) (K.has sink.old) (K.has sink.new) report) }
+    ensures reported { (options : Options) → command_of words.now ≡ Some (Run options) →
+        (IsSome result.report ↔ ((result.status ≡ 0) ⊎ (result.status ≡ 1) ⊎ (result.status ≡ 5))) }
+    ensures report { IfSome result.report (λ report. Reports result.status words.now (S.held source.old)
+        (K.has sink.old) (K.has sink.new) report) }
     ensures sink_failed { result.status ≡ 5 → Rose (K.faults sink.old) (K.faults sink.new) }
 
-    // A script whose source and sink do not fail is run, unless memory is refused.
-    ensures complete { IsSome (command_of words.now) → (Rose (S.faults source.old) (S.faults source.new) → ⊥) → (Rose (K.faults sink.old) (K.faults sink.new) → ⊥) → IfSome (S.held source.old) (λ bytes. (script : Script) → IsScript bytes script → (result.status ≡ 0) ⊎ (result.status ≡ 1) ⊎ (result.status ≡ 3)) }
+    // A check accepts scripts alone.
+    ensures checked { command_of words.now ≡ Some Check → (result.status ≡ 0) ⊎ (result.status ≡ 5) →
+        Checked result.status (S.held source.old) (K.has sink.old) (K.has sink.new) }
+    ensures runs_nothing { command_of words.now ≡ Some Check → result.status ≡ 1 → ⊥ }
+
+    // A script whose source and sink do not fail is run, or accepted, unless memory is refused.
+    ensures complete { IsSome (command_of words.now) → (Rose (S.faults source.old) (S.faults source.new) → ⊥) →
+        (Rose (K.faults sink.old) (K.faults sink.new) → ⊥) → IfSome (S.held source.old) (λ bytes. (script : Script) →
+        IsScript bytes script → (result.status ≡ 0) ⊎ (result.status ≡ 1) ⊎ (result.status ≡ 3)) }
 {
     let _gate = gate;
-    let Some(options) = read_words(words) else {
-        return TopOutcome::without_report(announce(sink, USAGE, status::WORDS_REFUSED));
-    };
-    match load(alloc, source) {
-        Ok(program) => execute(rt, alloc, &program, &options, sink),
-        Err(Unloaded::SourceFailed) => TopOutcome::without_report(status::SOURCE_FAILED),
-        Err(Unloaded::Refused) => {
-            TopOutcome::without_report(announce(sink, REFUSAL, status::REFUSED))
-        }
-        Err(Unloaded::Memory) => TopOutcome::without_report(status::MEMORY),
+    match read_words(words) {
+        None => TopOutcome::without_report(announce(sink, USAGE.as_bytes(), status::WORDS_REFUSED)),
+        Some(Command::Check) => TopOutcome::without_report(check_only(alloc, source, sink)),
+        Some(Command::Run(options)) => run_script(rt, alloc, &options, source, sink),
     }
 }
 
-// Writes a line that takes the place of a report, and answers this status, or `MEMORY`.
-fn announce<K: Sink>(sink: &mut K, line: &str, status: u8) -> u8
-    requires { status ≢ 3 }
-    ensures answer { (result ≡ status) ⊎ (result ≡ 3) }
-    ensures first { result ≡ status → AddsFirst (K.has sink.old) (K.has sink.new) line.now }
-    ensures whole { result ≡ status → (Rose (K.faults sink.old) (K.faults sink.new) → ⊥) → Adds (K.has sink.old) (K.has sink.new) line.now }
-    ensures memory { result ≡ 3 → (K.has sink.new ≡ K.has sink.old) × (K.faults sink.new ≡ K.faults sink.old) }
+/// Runs the script that the source holds.
+fn run_script<R: Wait, S: Source, K: Sink>(
+    rt: &R,
+    alloc: Global,
+    options: &Options,
+    source: &mut S,
+    sink: &mut K,
+) -> TopOutcome
+    requires objects { options.now.objects ≤ 4032 }
+    ensures status { (result.status ≡ 0) ⊎ (result.status ≡ 1) ⊎ (result.status ≡ 3) ⊎ (result.status ≡ 4) ⊎
+        (result.status ≡ 5) ⊎ (result.status ≡ 6) }
+    ensures memory { result.status ≡ 3 → (K.has sink.new ≡ K.has sink.old) × (K.faults sink.new ≡ K.faults sink.old) }
+    ensures source_failed { result.status ≡ 4 → Rose (S.faults source.old) (S.faults source.new) }
+    ensures source_unwritten { result.status ≡ 4 →
+        (K.has sink.new ≡ K.has sink.old) × (K.faults sink.new ≡ K.faults sink.old) }
+    ensures read_through { (result.status ≡ 0) ⊎ (result.status ≡ 1) ⊎ (result.status ≡ 5) ⊎ (result.status ≡ 6) →
+        IsReadThrough (S.held source.old) (S.held source.new) }
+    ensures refused { result.status ≡ 6 →
+        Refused (S.held source.old) (K.has sink.old) (K.has sink.new) (K.faults sink.old) (K.faults sink.new) }
+    ensures refuses { (Rose (S.faults source.old) (S.faults source.new) → ⊥) →
+        IfSome (S.held source.old) (λ bytes. ((script : Script) → IsScript bytes script → ⊥) →
+        (result.status ≡ 6) ⊎ (result.status ≡ 3)) }
+    ensures reported { IsSome result.report ↔ ((result.status ≡ 0) ⊎ (result.status ≡ 1) ⊎ (result.status ≡ 5)) }
+    ensures report { IfSome result.report (λ report. (words : List (List ℕ)) →
+        command_of words ≡ Some (Run options.now) →
+        Reports result.status words (S.held source.old) (K.has sink.old) (K.has sink.new) report) }
+    ensures sink_failed { result.status ≡ 5 → Rose (K.faults sink.old) (K.faults sink.new) }
+    ensures complete { (Rose (S.faults source.old) (S.faults source.new) → ⊥) →
+        (Rose (K.faults sink.old) (K.faults sink.new) → ⊥) → IfSome (S.held source.old) (λ bytes. (script : Script) →
+        IsScript bytes script → (result.status ≡ 0) ⊎ (result.status ≡ 1) ⊎ (result.status ≡ 3)) }
 {
-    match deliver(sink, line.as_bytes()) {
-        Ok(()) | Err(Unwritten::SinkFailed) => status,
-        Err(Unwritten::Memory) => status::MEMORY,
+    match load(alloc, source) {
+        Ok(program) => execute(rt, alloc, &program, options, sink),
+        Err(Unloaded::SourceFailed) => TopOutcome::without_report(status::SOURCE_FAILED),
+        Err(Unloaded::Refused(cause)) => {
+            TopOutcome::without_report(announce_refusal(alloc, sink, cause))
+        }
+        Err(Unloaded::Memory) => TopOutcome::without_report(status::MEMORY),
     }
 }

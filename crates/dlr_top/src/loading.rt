@@ -1,11 +1,11 @@
-ghost use Rattle.std.specs.Prelude.{◌≡◌, IfOk, IfSome, OnOk, IsErrOf};
-ghost use Rattle.script_front.specs.declared.tree.Script.{Script};
-ghost use Rattle.script_front.specs.Programs.{script_of};
-ghost use Rattle.script_front.specs.Script.{IsScript};
-ghost use Rattle.dlr_top.specs.Devices.{Rose, IsReadThrough};
+ghost use Rattle.std.specs.Prelude.{IfErr, IfOk, IfSome, OnOk};
+ghost use Rattle.script_program.specs.Programs.{script_of};
+ghost use Rattle.script_program.specs.Scripts.{IsScript};
+ghost use Rattle.byte_devices.specs.Devices.{IsReadThrough};
+ghost use Rattle.dlr_top.specs.Loads.{FailsToLoad};
 
-use crate::devices::{Source, Unread, read_all};
-use script_front::{Program, ReadFault, ScriptRefused, read};
+use byte_devices::{Source, Unread, read_all};
+use script_program::{Program, ReadFault, ScriptRefused, read, scripts_are_not_refused};
 use std::alloc::Global;
 
 /// Why a source gave no program.
@@ -13,8 +13,8 @@ use std::alloc::Global;
 pub(crate) enum Unloaded {
     /// The source failed.
     SourceFailed,
-    /// What the source held is no script.
-    Refused,
+    /// What the source held is no script, for this cause.
+    Refused(ScriptRefused),
     /// Memory was refused.
     Memory,
 }
@@ -22,10 +22,9 @@ pub(crate) enum Unloaded {
 /// The program of the script that the source holds.
 pub(crate) fn load<S: Source>(alloc: Global, source: &mut S) -> Result<Program, Unloaded>
     ensures found { IfOk result (λ p. IfSome (S.held source.old) (λ bytes. IsScript bytes (script_of p))) }
-    ensures found_through { OnOk result (IsReadThrough (S.held source.old) (S.held source.new)) }
-    ensures refused { IsErrOf result Unloaded.Refused → IfSome (S.held source.old) (λ bytes. (script : Script) → IsScript bytes script → ⊥) }
-    ensures refused_through { IsErrOf result Unloaded.Refused → IsReadThrough (S.held source.old) (S.held source.new) }
-    ensures cause { IsErrOf result Unloaded.SourceFailed → Rose (S.faults source.old) (S.faults source.new) }
+    ensures through { OnOk result (IsReadThrough (S.held source.old) (S.held source.new)) }
+    ensures cause { IfErr result (FailsToLoad (S.held source.old) (S.held source.new) (S.faults source.old)
+        (S.faults source.new)) }
 {
     let bytes = match read_all(alloc, source) {
         Ok(bytes) => bytes,
@@ -34,7 +33,10 @@ pub(crate) fn load<S: Source>(alloc: Global, source: &mut S) -> Result<Program, 
     };
     match read(alloc, bytes.as_slice()) {
         Ok(program) => Ok(program),
-        Err(ReadFault::Refused(ScriptRefused::NotBuilt)) => Err(Unloaded::Refused),
+        Err(ReadFault::Refused(refused)) => {
+            scripts_are_not_refused();
+            Err(Unloaded::Refused(refused))
+        }
         Err(ReadFault::Memory) => Err(Unloaded::Memory),
     }
 }

@@ -6,9 +6,10 @@ mod rendering;
 mod texts;
 
 use dyn_value::{DynText, Entry};
-use program_eval::Ended;
 pub use rendering::render;
 use sqlite_items::Items;
+use task_walk::Ended;
+pub(crate) use texts::{put_ascii, put_number};
 
 /// How a task ended, what it printed, and the numbers that it drew for new objects.
 #[derive(Debug, Drop)]

@@ -2,8 +2,6 @@
 use super::*;
 use dyn_value::DynText;
 use std::alloc::{AllocError, Global};
-use std::io;
-use std::io::{ErrorKind, Read, Write};
 use std::sync::Wait;
 use std::test::Fail;
 use std::thread::Threads;
@@ -57,7 +55,7 @@ struct SlowSink {
 
 impl Sink for SlowSink {
     ghost use Rattle.std.specs.Prelude.{None};
-    ghost use Rattle.dlr_top.specs.Clean.{reserved_room};
+    ghost use Rattle.byte_devices.specs.Clean.{reserved_room};
 
     ghost has = { λ _. None };
 
@@ -139,7 +137,7 @@ fn words_that_are_no_command_give_the_usage_line(rt: HostRuntime) -> Result<(), 
         (&["run", "--journal", "--serial", "--journal"], NEVER, USAGE),
         (&["run", "--journal", "--stats"], NEVER, USAGE),
         // The writes take 1, 2 and 3 bytes before the fourth fails.
-        (&["check"], 3, "usage:"),
+        (&["drill"], 3, "usage:"),
         (&["Run"], 0, ""),
     ];
     for (texts, fails_at, want) in cases {
@@ -165,62 +163,6 @@ fn a_source_that_fails_leaves_the_sink_as_it_was(rt: HostRuntime) -> Result<(), 
         assert!(rt; outcome.report.is_none());
         assert_eq!(rt; sink.clean.bytes(), b"".as_slice());
         assert_eq!(rt; sink.calls, 0);
-    }
-    Ok(())
-}
-
-// A reader and a writer that move two bytes, then fail, then move none.
-#[derive(Drop)]
-struct Unsteady {
-    calls: u64,
-}
-
-impl Unsteady {
-    ghost use Rattle.std.specs.Prelude.{◌≤◌, IfOk};
-
-    fn turn(&mut self, most: usize) -> io::Result<usize>
-        ensures { IfOk result (λ n. n ≤ most) }
-    {
-        let call = self.calls;
-        self.calls = call.saturating_add(1);
-        match call {
-            0 => Ok(most.min(2)),
-            1 => Err(io::Error::from(ErrorKind::BrokenPipe)),
-            _ => Ok(0),
-        }
-    }
-}
-
-impl Read for Unsteady {
-    fn read(&mut self, into: &mut [u8]) -> io::Result<usize> {
-        self.turn(into.len())
-    }
-}
-
-impl Write for Unsteady {
-    fn write(&mut self, piece: &[u8]) -> io::Result<usize> {
-        self.turn(piece.len())
-    }
-
-    fn flush(&mut self) -> io::Result<()> {
-        Ok(())
-    }
-}
-
-#[test]
-fn an_error_of_a_reader_or_a_writer_is_a_failure(rt: HostRuntime) -> Result<(), Fail> {
-    let mut source = InputSource::new(Unsteady { calls: 0 });
-    let mut sink = OutputSink::new(Unsteady { calls: 0 });
-    let mut piece = [7; 3];
-    for (reads, writes) in [
-        (Ok(2), Ok(2)),
-        (Err(Failed), Err(Failed)),
-        // The reader is at its end. A writer that takes nothing has failed.
-        (Ok(0), Err(Failed)),
-    ] {
-        assert_eq!(rt; source.read(&mut piece), reads);
-        sink.reserve(piece.len())?;
-        assert_eq!(rt; sink.write(&piece), writes);
     }
     Ok(())
 }
@@ -299,6 +241,93 @@ fn a_sink_that_fails_keeps_a_front_of_the_text(rt: HostRuntime) -> Result<(), Fa
         assert_eq!(rt; sink.clean.bytes(), want.as_bytes());
         assert_eq!(rt; sink.reserved, 1);
         assert_eq!(rt; sink.short, 0);
+    }
+    Ok(())
+}
+
+#[test]
+fn a_check_writes_ok_or_the_refusal(rt: HostRuntime) -> Result<(), Fail> {
+    let alloc = rt.alloc();
+    let cases: [(&str, &str, u8); 9] = [
+        ("", "ok\n", ALL_DONE),
+        ("task a { print nil.x; }", "ok\n", ALL_DONE),
+        ("# \u{fffe}\nshared s;", "ok\n", ALL_DONE),
+        ("task a { print \"ab", "refused: BadToken 15\n", REFUSED),
+        ("task a { print (1 +", "refused: Syntax 7\n", REFUSED),
+        ("task a { print 1 + 2; }", "refused: Syntax 5\n", REFUSED),
+        ("task a { print x; }", "refused: BadName 4\n", REFUSED),
+        (
+            "fn f(a, b, c, d, e, f1, g, h, i, j, k, l, m, n, o, p, q) { }",
+            "refused: TooMany parameters\n",
+            REFUSED,
+        ),
+        ("shared s; shared s;", "refused: BadName 4\n", REFUSED),
+    ];
+    for (script, want, status) in cases {
+        let mut source = slow_source(alloc, script, NEVER)?;
+        let mut sink = slow_sink(alloc, NEVER);
+        let outcome = command(&rt, alloc, &["check"], &mut source, &mut sink)?;
+        assert_eq!(rt; outcome.status, status, "{script}");
+        assert!(rt; outcome.report.is_none());
+        assert_eq!(rt; sink.clean.bytes(), want.as_bytes(), "{script}");
+        let mut source = slow_source(alloc, script, NEVER)?;
+        let mut sink = slow_sink(alloc, NEVER);
+        assert_eq!(rt;
+            check_only(alloc, &mut source, &mut sink),
+            status,
+            "{script}"
+        );
+        assert_eq!(rt; sink.clean.bytes(), want.as_bytes(), "{script}");
+    }
+    Ok(())
+}
+
+#[test]
+fn a_check_tells_which_device_failed(rt: HostRuntime) -> Result<(), Fail> {
+    let alloc = rt.alloc();
+    for (script, source_fails_at, sink_fails_at, want, status) in [
+        ("task a { }", 2, NEVER, "", SOURCE_FAILED),
+        ("task a {", 2, NEVER, "", SOURCE_FAILED),
+        // The writes take 1 and 2 bytes.
+        ("task a { }", NEVER, 1, "o", SINK_FAILED),
+        ("task a {", NEVER, 2, "ref", REFUSED),
+    ] {
+        let mut source = slow_source(alloc, script, source_fails_at)?;
+        let mut sink = slow_sink(alloc, sink_fails_at);
+        assert_eq!(rt;
+            check_only(alloc, &mut source, &mut sink),
+            status,
+            "{script}"
+        );
+        assert_eq!(rt; sink.clean.bytes(), want.as_bytes(), "{script}");
+    }
+    Ok(())
+}
+
+#[test]
+fn turns_and_objects_are_those_of_the_words(rt: HostRuntime) -> Result<(), Fail> {
+    let alloc = rt.alloc();
+    let loops = "task a { let i = 0; while (i < 5) { i = (i + 1); print i; } }";
+    let makes = "shared s; task a { print new(); print new(); }";
+    let cases: [(&[&str], &str, &str); 4] = [
+        (
+            &["run", "--turns", "5"],
+            loops,
+            "a: 1\na: 2\na: 3\na: 4\na: 5\n",
+        ),
+        (
+            &["run", "--turns=4"],
+            loops,
+            "a: 1\na: 2\na: 3\na: 4\na! Turns\n",
+        ),
+        (&["run", "--objects", "2"], makes, "a: obj#1\na: obj#2\n"),
+        (&["run", "--objects=1"], makes, "a: obj#1\na! HeapFull\n"),
+    ];
+    for (texts, script, want) in cases {
+        let mut source = slow_source(alloc, script, NEVER)?;
+        let mut sink = slow_sink(alloc, NEVER);
+        command(&rt, alloc, texts, &mut source, &mut sink)?;
+        assert_eq!(rt; sink.clean.bytes(), want.as_bytes());
     }
     Ok(())
 }

@@ -204,7 +204,7 @@ fn a_line_of_a_refusal_is_cut_where_a_write_fails(rt: HostRuntime) -> Result<(),
     let script = Example {
         words: "run --journal",
         script: "shared s; task a { s.n = }",
-        text: "refused: NotBuilt\n",
+        text: "refused: Syntax 10\n",
         status: REFUSED,
     };
     let words = Example {

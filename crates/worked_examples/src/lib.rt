@@ -4,6 +4,14 @@
 #[cfg(test)]
 mod command_tests;
 #[cfg(test)]
+mod commands;
+#[cfg(test)]
 mod failing_tests;
 #[cfg(test)]
 mod journals;
+#[cfg(test)]
+mod language_tests;
+#[cfg(test)]
+mod refusal_tests;
+#[cfg(test)]
+mod trade;

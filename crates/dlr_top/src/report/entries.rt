@@ -1,12 +1,12 @@
 ghost use Rattle.std.specs.Prelude.{OnOk, OnErr, slice_get};
 ghost use Rattle.std.specs.List.{flat_map};
-ghost use Rattle.program_eval.specs.Stores.{Begins};
-ghost use Rattle.script_front.specs.Programs.{script_of, binders_of};
+ghost use Rattle.task_run.specs.Stores.{Begins};
+ghost use Rattle.script_program.specs.Programs.{script_of, binders_of};
 ghost use Rattle.dlr_top.specs.Rendering.{AddsText, entry_text, name_of, operand_text, outcome_text, text_of};
 
 use crate::report::texts::{put_ascii, put_text};
 use dyn_value::{Entry, Outcome, Value};
-use script_front::Program;
+use script_program::Program;
 use std::alloc::AllocError;
 
 /// Appends the line of an entry: its task, its binder, its operands and its outcome.

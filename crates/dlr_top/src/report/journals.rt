@@ -1,8 +1,8 @@
-ghost use Rattle.std.specs.Prelude.{◌≡◌, [], IsSome, IfOk, OnOk, OnErr};
+ghost use Rattle.std.specs.Prelude.{◌≡◌, ◌<◌, ◌^◌, [], IsSome, IfOk, OnOk, OnErr};
 ghost use Rattle.std.specs.List.{flat_map};
 ghost use Rattle.object_model.specs.Journals.{IsLegal, entry_step, left_by, members_after};
-ghost use Rattle.program_eval.specs.Stores.{Begins};
-ghost use Rattle.dlr_top.specs.Lawful.{IsLawful, journal_at};
+ghost use Rattle.task_run.specs.Stores.{Begins};
+ghost use Rattle.dlr_top.specs.Lawful.{AreLegal, journal_at};
 ghost use Rattle.dlr_top.specs.Rendering.{AddsText, entry_text, journals_text, member_text, members_text, object_count, object_text};
 
 use crate::report::Report;
@@ -10,7 +10,7 @@ use crate::report::entries::render_entry;
 use crate::report::texts::{put_ascii, put_number};
 use dyn_value::Entry;
 use object_model::{Member, ObjectMembers};
-use script_front::Program;
+use script_program::Program;
 use standard_binders::Binder;
 use std::alloc::{AllocError, Global};
 
@@ -20,7 +20,7 @@ pub(crate) fn render_journals(
     report: &Report,
     out: &mut Vec<u8>,
 ) -> Result<(), AllocError>
-    requires { IsLawful program.now report.now }
+    requires { AreLegal program.now report.now }
     ensures appended { OnOk result (AddsText out.old out.new (journals_text program.now report.now)) }
     ensures begins { OnErr result (Begins out.old.items out.new.items) }
 {
@@ -32,32 +32,33 @@ pub(crate) fn render_journals(
 }
 
 /// How many objects were shared or made.
-fn object_count_of(program: &Program, report: &Report) -> u32
-    requires { IsLawful program.now report.now }
-    ensures { result ≡ object_count program.now report.now }
+fn object_count_of(program: &Program, report: &Report) -> usize
+    ensures count { result ≡ object_count program.now report.now }
+    ensures few { result < 2 ^ 63 }
 {
-    let limit = report.journals.len();
-    let mut count = program.shared().len();
+    let limit = report.journals.as_slice().len();
+    let mut count = program.shared().len().min(limit);
     for end in report.tasks.as_slice() {
         count = count.saturating_add(end.drawn.len()).min(limit);
     }
-    count as u32
+    count
 }
 
 /// Appends an object's number, its journal, and the members after it.
 fn render_object(
     program: &Program,
     report: &Report,
-    object: u32,
+    object: usize,
     out: &mut Vec<u8>,
 ) -> Result<(), AllocError>
-    requires { IsLawful program.now report.now }
+    requires legal { AreLegal program.now report.now }
+    requires few { object < 2 ^ 63 }
     ensures appended { OnOk result (AddsText out.old out.new (object_text program.now report.now object)) }
     ensures begins { OnErr result (Begins out.old.items out.new.items) }
 {
     let journal = journal_of(report, object);
     put_ascii("object ", out)?;
-    put_number(object, out)?;
+    put_number(object as u64, out)?;
     put_ascii("\n", out)?;
     render_entries(program, journal, out)?;
     put_ascii("  members", out)?;
@@ -67,10 +68,10 @@ fn render_object(
 }
 
 /// The journal of the object of this number.
-fn journal_of(report: &Report, object: u32) -> &[Entry]
+fn journal_of(report: &Report, object: usize) -> &[Entry]
     ensures { result.now ≡ journal_at report.now.journals object }
 {
-    match report.journals.as_slice().get(object as usize) {
+    match report.journals.as_slice().get(object) {
         Some(journal) => journal.as_slice(),
         None => &[],
     }

@@ -1,17 +1,18 @@
 ghost use Rattle.std.specs.Prelude.{◌≡◌, length, OnOk, OnErr};
-ghost use Rattle.program_eval.specs.Stores.{Begins};
-ghost use Rattle.script_front.specs.Programs.{script_of};
-ghost use Rattle.dlr_top.specs.Lawful.{IsLawful};
+ghost use Rattle.task_run.specs.Stores.{Begins};
+ghost use Rattle.script_program.specs.Programs.{script_of};
+ghost use Rattle.dlr_top.specs.Lawful.{AreLegal, IsLawful};
 ghost use Rattle.dlr_top.specs.Rendering.{AddsText, line_text, ended_text, task_text, lines_text, journals_if, report_text};
 
 use crate::report::journals::render_journals;
 use crate::report::texts::{put_ascii, put_text};
 use crate::report::{Report, TaskEnd};
-use crate::words::Options;
+use command_words::Options;
 use dyn_value::DynText;
-use program_eval::Ended;
-use script_front::{Program, Task};
+use script_grammar::Task;
+use script_program::Program;
 use std::alloc::AllocError;
+use task_walk::Ended;
 
 /// Appends the text of a lawful report, as UTF-8. Where memory is refused, `out` stays as it was.
 pub fn render(
@@ -20,7 +21,7 @@ pub fn render(
     report: &Report,
     out: &mut Vec<u8>,
 ) -> Result<(), AllocError>
-    requires { IsLawful program.now report.now }
+    requires { IsLawful program.now options.now report.now }
     ensures appended { OnOk result (AddsText out.old out.new (report_text program.now options.now report.now)) }
     ensures refused { OnErr result (out.new.items ≡ out.old.items) }
 {
@@ -39,7 +40,7 @@ fn render_whole(
     report: &Report,
     out: &mut Vec<u8>,
 ) -> Result<(), AllocError>
-    requires { IsLawful program.now report.now }
+    requires { IsLawful program.now options.now report.now }
     ensures appended { OnOk result (AddsText out.old out.new (report_text program.now options.now report.now)) }
     ensures begins { OnErr result (Begins out.old.items out.new.items) }
 {
@@ -54,7 +55,7 @@ fn render_asked_journals(
     report: &Report,
     out: &mut Vec<u8>,
 ) -> Result<(), AllocError>
-    requires { IsLawful program.now report.now }
+    requires { AreLegal program.now report.now }
     ensures appended { OnOk result (AddsText out.old out.new (journals_if options.now.journal program.now report.now)) }
     ensures begins { OnErr result (Begins out.old.items out.new.items) }
 {

@@ -1,8 +1,8 @@
-ghost use Rattle.std.specs.Prelude.{OnOk, OnErr, IsTrue};
+ghost use Rattle.std.specs.Prelude.{◌<◌, ◌^◌, OnOk, OnErr, IsTrue};
 ghost use Rattle.std.specs.Char.{is_ascii};
 ghost use Rattle.std.specs.Fmt.{decimal};
 ghost use Rattle.std.specs.List.{list_all};
-ghost use Rattle.program_eval.specs.Stores.{Begins};
+ghost use Rattle.task_run.specs.Stores.{Begins};
 ghost use Rattle.dlr_top.specs.Rendering.{AddsText};
 
 use dyn_value::{DynText, Value};
@@ -26,9 +26,10 @@ pub(crate) fn put_ascii(text: &str, out: &mut Vec<u8>) -> Result<(), AllocError>
 }
 
 /// Appends a number in decimal digits.
-pub(crate) fn put_number(number: u32, out: &mut Vec<u8>) -> Result<(), AllocError>
+pub(crate) fn put_number(number: u64, out: &mut Vec<u8>) -> Result<(), AllocError>
+    requires { number < 2 ^ 63 }
     ensures appended { OnOk result (AddsText out.old out.new (decimal number)) }
     ensures begins { OnErr result (Begins out.old.items out.new.items) }
 {
-    Value::Int(i64::from(number)).print_to(out)
+    Value::Int(number as i64).print_to(out)
 }

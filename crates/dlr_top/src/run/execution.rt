@@ -1,22 +1,23 @@
-ghost use Rattle.std.specs.Prelude.{◌≡◌, ◌↔◌, ◌⊎◌, List, ℕ, Option, Some, IsTrue, IsSome, IfSome, IfOk, encode_utf8_all};
-ghost use Rattle.script_front.specs.Programs.{script_of};
-ghost use Rattle.script_front.specs.Script.{IsScript};
-ghost use Rattle.dlr_top.specs.Commands.{command_of};
-ghost use Rattle.dlr_top.specs.Devices.{Rose};
+ghost use Rattle.std.specs.Prelude.{◌≡◌, ◌≤◌, ◌↔◌, ◌⊎◌, List, ℕ, Option, Some, IsTrue, IsSome, IfSome, IfOk, encode_utf8_all};
+ghost use Rattle.byte_devices.specs.Devices.{Rose};
+ghost use Rattle.command_words.specs.declared.words.Command.TheVariants.{Run};
+ghost use Rattle.command_words.specs.Commands.{command_of};
+ghost use Rattle.script_program.specs.Programs.{script_of};
+ghost use Rattle.script_program.specs.Scripts.{IsScript};
 ghost use Rattle.dlr_top.specs.Headline.{Reports, SomeFaulted};
 ghost use Rattle.dlr_top.specs.Lawful.{IsLawful, IsSerial};
 ghost use Rattle.dlr_top.specs.Rendering.{report_text};
 
 use crate::command::TopOutcome;
-use crate::devices::{Sink, Unwritten, deliver};
 use crate::report::{Report, render};
 use crate::run::tasks::run_tasks;
 use crate::status;
-use crate::words::Options;
-use program_eval::Ended;
-use script_front::Program;
+use byte_devices::{Sink, Unwritten, deliver};
+use command_words::Options;
+use script_program::Program;
 use std::alloc::{AllocError, Global};
 use std::sync::Wait;
+use task_walk::Ended;
 
 /// Runs the program, and writes the text of its report.
 pub(crate) fn execute<R: Wait, K: Sink>(
@@ -26,9 +27,12 @@ pub(crate) fn execute<R: Wait, K: Sink>(
     options: &Options,
     sink: &mut K,
 ) -> TopOutcome
+    requires objects { options.now.objects ≤ 4032 }
     ensures status { (result.status ≡ 0) ⊎ (result.status ≡ 1) ⊎ (result.status ≡ 3) ⊎ (result.status ≡ 5) }
     ensures reported { IsSome result.report ↔ ((result.status ≡ 0) ⊎ (result.status ≡ 1) ⊎ (result.status ≡ 5)) }
-    ensures report { IfSome result.report (λ report. (held : Option (List ℕ)) (words : List (List ℕ)) → IfSome held (λ bytes. IsScript bytes (script_of program.now)) → command_of words ≡ Some options.now → Reports result.status words held (K.has sink.old) (K.has sink.new) report) }
+    ensures report { IfSome result.report (λ report. (held : Option (List ℕ)) (words : List (List ℕ)) →
+        IfSome held (λ bytes. IsScript bytes (script_of program.now)) → command_of words ≡ Some (Run options.now) →
+        Reports result.status words held (K.has sink.old) (K.has sink.new) report) }
     ensures memory { result.status ≡ 3 → (K.has sink.new ≡ K.has sink.old) × (K.faults sink.new ≡ K.faults sink.old) }
     ensures sink_failed { result.status ≡ 5 → Rose (K.faults sink.old) (K.faults sink.new) }
 {
@@ -50,11 +54,12 @@ fn run_and_render<R: Wait>(
     program: &Program,
     options: &Options,
 ) -> Result<(Report, Vec<u8>), AllocError>
-    ensures lawful { IfOk result (λ run. IsLawful program.now run.0) }
-    ensures serial { IfOk result (λ run. IsSerial program.now run.0) }
+    requires objects { options.now.objects ≤ 4032 }
+    ensures lawful { IfOk result (λ run. IsLawful program.now options.now run.0) }
+    ensures serial { IfOk result (λ run. IsSerial program.now options.now run.0) }
     ensures text { IfOk result (λ run. run.1.items ≡ encode_utf8_all (report_text program.now options.now run.0)) }
 {
-    let report = run_tasks(rt, alloc, program)?;
+    let report = run_tasks(rt, alloc, program, options)?;
     let mut text = Vec::new(alloc);
     render(program, options, &report, &mut text)?;
     Ok((report, text))

@@ -1,7 +1,7 @@
 use Rattle.std.proofs.Common.{◌≡◌, ◌++◌, ◌∙◌, ap, slice_get}
 use Rattle.std.specs.Prelude.{codes, encode_utf8_all}
 use Rattle.std.specs.List.{flat_map}
-use Rattle.script_front.specs.Programs.{script_of, binders_of}
+use Rattle.script_program.specs.Programs.{script_of, binders_of}
 use Rattle.dlr_top.specs.Rendering.{name_of, operand_text, outcome_text, text_of}
 use Rattle.dlr_top.proofs.Lines.{both, both_ok, refused_after}
 use Rattle.dlr_top.proofs.report.entries.render_entry.Goals as goal

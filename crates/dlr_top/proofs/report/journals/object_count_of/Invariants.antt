@@ -1,7 +1,7 @@
 use Rattle.std.proofs.Common.{◌≡◌, ◌+◌, length, take}
 use Rattle.std.specs.Prelude.{min}
 use Rattle.std.specs.List.{flat_map}
-use Rattle.script_front.specs.Programs.{script_of}
+use Rattle.script_program.specs.Programs.{script_of}
 use Rattle.dlr_top.specs.Lawful.{drawn_by}
 use Rattle.dlr_top.proofs.report.journals.object_count_of.Given as goal
 

@@ -14,7 +14,7 @@ pub returns-clause-appended : goal.returns-clause-appended
 returns-clause-appended c =
     let f = object_text c.args.program.now c.args.report.now in
     numbers_whole f c.object_count_of-count.result c.loop-object.object c.args.out.now.items c.loop-object.out.items c.loop-object-test.false c.loop-object.invariant
-    ∙ ap (λ z. c.args.out.now.items ++ encode_utf8_all (flat_map f (range_with_len 0 z))) c.object_count_of-count.ensures
+    ∙ ap (λ z. c.args.out.now.items ++ encode_utf8_all (flat_map f (range_with_len 0 z))) c.object_count_of-count.ensures.count
 
 pub returns-in_err-render_object-clause-begins : goal.returns-in_err-render_object-clause-begins
 returns-in_err-render_object-clause-begins c =

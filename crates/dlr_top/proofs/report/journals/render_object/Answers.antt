@@ -3,7 +3,7 @@ use Rattle.std.specs.Prelude.{codes, encode_utf8_all}
 use Rattle.std.specs.Fmt.{decimal}
 use Rattle.std.specs.List.{flat_map}
 use Rattle.object_model.specs.Journals.{IsLegal, members_after}
-use Rattle.script_front.specs.Programs.{binders_of}
+use Rattle.script_program.specs.Programs.{binders_of}
 use Rattle.dlr_top.specs.Lawful.{journal_at}
 use Rattle.dlr_top.specs.Rendering.{entry_text, members_text}
 use Rattle.dlr_top.proofs.Lines.{both, both_ok, refused_after}
@@ -11,7 +11,7 @@ use Rattle.dlr_top.proofs.report.journals.render_object.Goals as goal
 
 pub replayed-requires : goal.replayed-requires
 replayed-requires c =
-    subst (λ bs. IsLegal bs [] c.journal_of-journal.result.now) (sym c.binders.ensures)
+    subst (λ bs. IsLegal bs [] c.journal_of-journal.result.now) (sym c.binders.ensures.binders)
     (subst (IsLegal (binders_of c.args.program.now) []) (sym c.journal_of-journal.ensures) (c.requires.legal c.args.object))
 
 pub returns-clause-appended : goal.returns-clause-appended
@@ -28,7 +28,7 @@ returns-clause-appended c =
     let wrote_entries : c.render_entries.new.out.items ≡ c.put_ascii-2.new.out.items ++ encode_utf8_all entries =
     c.in_ok-render_entries.ensures.appended ∙ ap (λ z. c.put_ascii-2.new.out.items ++ encode_utf8_all (flat_map (entry_text program) z)) c.journal_of-journal.ensures in
     let is : c.members-2.result.now ≡ ms =
-    c.members-2.ensures ∙ c.in_ok-members.ensures ∙ ap (λ z. members_after z [] c.journal_of-journal.result.now) c.binders.ensures
+    c.members-2.ensures ∙ c.in_ok-members.ensures ∙ ap (λ z. members_after z [] c.journal_of-journal.result.now) c.binders.ensures.binders
     ∙ ap (members_after (binders_of program) []) c.journal_of-journal.ensures in
     let wrote_members : c.render_members.new.out.items ≡ c.put_ascii-3.new.out.items ++ encode_utf8_all (members_text ms) =
     c.in_ok-render_members.ensures.appended ∙ ap (λ z. c.put_ascii-3.new.out.items ++ encode_utf8_all (members_text z)) is in

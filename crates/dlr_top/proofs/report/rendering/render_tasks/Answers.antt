@@ -1,5 +1,5 @@
 use Rattle.std.proofs.Common.{◌≡◌, ◌<◌, length, get_or, ap, ◌∙◌, subst, arith}
-use Rattle.script_front.specs.Programs.{script_of}
+use Rattle.script_program.specs.Programs.{script_of}
 use Rattle.dlr_top.proofs.Lines.{tasks_more, refused_here}
 use Rattle.dlr_top.proofs.report.rendering.render_tasks.Goals as goal
 

@@ -1,7 +1,7 @@
 use Rattle.std.proofs.Common.{◌≡◌, ◌++◌, take}
 use Rattle.std.specs.Prelude.{encode_utf8_all}
 use Rattle.dlr_top.specs.Rendering.{tasks_text}
-use Rattle.script_front.specs.Programs.{script_of}
+use Rattle.script_program.specs.Programs.{script_of}
 use Rattle.dlr_top.proofs.report.rendering.render_tasks.Given as goal
 
 abbrev pub invariant-loop-at : goal.invariant-loop-at

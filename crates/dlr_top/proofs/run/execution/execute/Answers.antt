@@ -1,6 +1,6 @@
 use Rattle.std.proofs.Common.{ℕ, List, Err, ◌∙◌, ap, subst}
-use Rattle.dlr_top.specs.declared.devices.output.Unwritten.{Unwritten}
-use Rattle.dlr_top.specs.Devices.{Adds, AddsProperFront}
+use Rattle.byte_devices.specs.declared.output.Unwritten.{Unwritten}
+use Rattle.byte_devices.specs.Devices.{Adds, AddsProperFront}
 use Rattle.dlr_top.proofs.Endings.{whole_report, front_report}
 use Rattle.dlr_top.proofs.run.execution.execute.Goals as goal
 

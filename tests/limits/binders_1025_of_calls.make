@@ -1,0 +1,4 @@
+# 1,023 reads of a member for a call, which all call with one argument; then a call with a named one
+echo "fn f(o) {"
+for i in $(seq 1023); do echo "o.m$i(1);"; done
+echo "o(a: 2); }"

@@ -1,0 +1,1 @@
+for i in $(seq 257); do echo "fn f$i() { }"; done

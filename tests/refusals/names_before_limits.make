@@ -1,0 +1,1 @@
+for i in $(seq 65); do echo "shared s$i;"; done; echo 'task a { print x; }'

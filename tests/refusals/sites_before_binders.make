@@ -1,0 +1,3 @@
+echo 'fn f(o) {'
+for i in $(seq 4097); do echo "o.m$i;"; done
+echo '}'

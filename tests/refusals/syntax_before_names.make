@@ -1,0 +1,1 @@
+echo 'task a { print x; print }'

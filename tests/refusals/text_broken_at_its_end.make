@@ -1,0 +1,1 @@
+printf 'task a { print "\303'
