@@ -1,3 +1,4 @@
 pub mod Claimed
+pub mod Fitting
 pub mod Rules
 pub mod Texts

@@ -4,6 +4,7 @@
 mod binding;
 mod claimed;
 mod class_lists;
+mod fitting;
 mod printing;
 mod rule;
 #[cfg(test)]
