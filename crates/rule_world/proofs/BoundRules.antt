@@ -4,7 +4,7 @@ use Rattle.std.proofs.Math.Logic.{∥∥₁_elim}
 use Rattle.std.proofs.Props.{props}
 use Rattle.std.specs.List.{AllByRecursion, list_all}
 use Rattle.std.specs.Option.{option_map, option_and_then}
-use Rattle.std.specs.Prelude.{encode_utf8_all, nat_le, IsTrue, IsSome, IfSome, IsSomeAnd, is_some, not, ◌&&◌, if◌then◌else◌}
+use Rattle.std.specs.Prelude.{encode_utf8_all, nat_le, IsTrue, IsSome, IfSome, IsSomeAnd, is_some, not, ◌&&◌}
 use Rattle.std.proofs.lemmas.List.{length-take-le, take_all, take_more}
 use Rattle.std.proofs.lemmas.Bool.{and_parts, le-leb}
 use Rattle.std.proofs.lemmas.List.Elements.{All-get_or}
@@ -34,8 +34,8 @@ use Rattle.object_model.specs.Plain.{plain_step}
 use Rattle.object_model.specs.Steps.{OnObject, if_on_members, on_object}
 use Rattle.rule_model.specs.declared.claim.Claim.{Claim}
 use Rattle.rule_model.specs.declared.claim.ClassClaim.{ClassClaim}
-use Rattle.rule_model.specs.Claims.{ClassHolds, FunHolds, ListHolds, class_after}
-use Rattle.rule_model.specs.Soundness.{Answers, IsSound, Suit, is_object, looks_at_none}
+use Rattle.rule_model.specs.Claims.{ListHolds, class_after}
+use Rattle.rule_model.specs.Soundness.{Answers, IsSound, Suit, looks_at_none}
 use Rattle.rule_model.specs.Tests.{known_value}
 use Rattle.meta_object.specs.declared.meta.MetaObject.{MetaObject}
 use Rattle.meta_object.specs.Metas.{Describes, IsLendable, IsMetaOf, class_in_shape, has_few, has_key, is_callable, shape_with, target_class}
@@ -44,11 +44,9 @@ use Rattle.rule.specs.declared.rule.Rule.{Rule}
 use Rattle.rule.specs.Rules.{IsBoundRule, IsSoundRule, binder_of, body_of, claim_of, test_of}
 use Rattle.tree_eval.specs.States.{names_after}
 use Rattle.script_program.specs.Names.{has_short_names, is_short_name}
-use Rattle.rule_world.specs.declared.object_row.Operation.{Operation}
+use Rattle.rule_world.specs.declared.operation.Operation.{Operation}
 use Rattle.rule_world.specs.Bindings.{IsBindable, IsClaimedOf, IsRuleFor}
-use Rattle.rule_world.specs.RowProps.{class_prop}
-use Rattle.rule_world.specs.Rows.{Fits}
-use Rattle.rule_world.proofs.Commits.{root_there, root_plain}
+use Rattle.rule_world.proofs.Commits.{Serves, root_there, root_plain}
 
 pub if_ok : {T E : Type 0} {P Q : T → Type 0} (r : Result T E) → ((x : T) → P x → Q x) → IfOk r P → IfOk r Q
 if_ok (Ok x) each p = each x p
@@ -286,15 +284,15 @@ named_after pass claim class None lists names number = none_named pass (class_af
 named_after pass claim class (Some r) lists names number = sym number
 
 -- the rule serves for an operation on an object of the class that was lent
-pub fits_of : (functions : Functions) (pass : ClassPass) (table : ClassTable) (b : Binder) (operation : Operation) (class : ClassRef)
+pub serves_of : (functions : Functions) (pass : ClassPass) (table : ClassTable) (b : Binder) (operation : Operation) (class : ClassRef)
     (after : Option ClassRef) (r : Rule)
     → IsRuleFor functions pass b operation.operands.now (Some class) r
     → on_object b operation.operands.now ≡ Some (record { object = operation.object; operands = operation.arguments.now })
     → IsSome (access_of b operation.arguments.now)
     → option_map names_of after ≡ option_and_then (class_map pass) (class_after (claim_of r))
     → IfSome after (λ shown. class_after (claim_of r) ≡ Some (number_of shown)) → IfSome after (IsClassOf table)
-    → Fits r operation table class after
-fits_of functions pass table b operation class after r rule on suits names number own = record {
+    → Serves r operation table class after
+serves_of functions pass table b operation class after r rule on suits names number own = record {
   sound = rule.sound;
   suits = subst (λ (x : Binder). IsSome (access_of x operation.arguments.now)) (sym rule.binder_is) suits;
   passes = rule.passes (number_of class) (lent_on b operation.operands.now (record { object = operation.object; operands = operation.arguments.now }) class on);
@@ -379,14 +377,6 @@ bindable_plain functions table b operands objects short suit proper none = recor
   of = λ shown is. cc;
   lendable = λ v at. tt;
 }
-
--- what serves for an operation serves where table and class are these
-pub fits_moved : (r : Rule) (operation : Operation) (old_table table : ClassTable) (old_class class : ClassRef) (after : Option ClassRef)
-    → table ≡ old_table → class ≡ old_class
-    → Fits r operation old_table old_class after → Fits r operation table class after
-fits_moved r operation old_table table old_class class after same_table same_class fits =
-    subst (λ (t : ClassTable). Fits r operation t class after) (sym same_table) (subst (λ (c : ClassRef). Fits r operation old_table c after)
-    (sym same_class) fits)
 
 pub arguments_proper : (functions objects : ℕ) (operation : Operation) → AllByRecursion (IsProperIn functions objects) operation.operands.now
     → AllByRecursion (IsProperIn functions objects) operation.arguments.now

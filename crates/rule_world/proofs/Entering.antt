@@ -1,5 +1,5 @@
 -- An operation that is entered, or that looks at no object.
-use Rattle.std.proofs.Common.{◌≡◌, ℕ, ◌+◌, ◌<◌, List, [], ◌∷◌, ◌++◌, length, map, get_or, slice_get, Option, None, Some, refl, sym, ◌∙◌, ap, subst, arith}
+use Rattle.std.proofs.Common.{◌≡◌, ℕ, ◌+◌, ◌<◌, List, [], ◌∷◌, ◌++◌, length, map, get_or, slice_get, Option, None, Some, sym, ◌∙◌, ap, subst, arith}
 use Rattle.std.proofs.Math.ListN.{set}
 use Rattle.std.proofs.lemmas.List.{length-map}
 use Rattle.std.proofs.lemmas.Option.{get_or_from_slice_get}
@@ -14,19 +14,20 @@ use Rattle.standard_binders.specs.Binders.{operand_count_of}
 use Rattle.object_model.specs.Plain.{plain_step}
 use Rattle.object_model.specs.Steps.{OnObject, on_object}
 use Rattle.rule_model.specs.Soundness.{Suit}
-use Rattle.script_sites.specs.Numbering.{IsNumbering}
 use Rattle.script_sites.specs.Sites.{site_binders}
 use Rattle.task_code.specs.Codes.{Plan, binder_at}
 use Rattle.task_code.specs.Fits.{IsSite}
-use Rattle.task_walk.specs.Tales.{Suits, Tale, Teller, entries_after, entry_of, tale_answered}
+use Rattle.task_walk.specs.Tales.{Suits, Tale, entries_after, entry_of, tale_answered}
 use Rattle.script_program.specs.declared.program.Program.{Program}
 use Rattle.script_program.specs.Plans.{plan_of}
-use Rattle.script_program.specs.Programs.{binders_of, built_of, functions_of, script_of, sites_of}
-use Rattle.rule_world.specs.declared.object_row.EntryHead.{EntryHead}
-use Rattle.rule_world.specs.declared.object_row.ObjectRow.{ObjectRow}
+use Rattle.script_program.specs.Programs.{binders_of, built_of, script_of, sites_of}
+use Rattle.object_history.specs.declared.entry_head.EntryHead.{EntryHead}
+use Rattle.object_history.specs.declared.object_row.ObjectRow.{ObjectRow}
 use Rattle.rule_world.specs.declared.world.RuleWorld.{RuleWorld}
-use Rattle.rule_world.specs.Rows.{entry_by, journal_of, journals_in}
-use Rattle.rule_world.specs.Worlds.{entered, tale_of}
+use Rattle.object_history.specs.Entries.{entry_by}
+use Rattle.object_history.specs.Rows.{journal_of}
+use Rattle.rule_world.specs.Rows.{journals_in}
+use Rattle.rule_world.specs.Worlds.{entered}
 use Rattle.rule_world.proofs.Worlds.{journals_grow, journals_stay, target_proper}
 
 -- a site of the plan is one of the script

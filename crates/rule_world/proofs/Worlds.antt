@@ -1,5 +1,5 @@
 -- The objects of a world and their journals, from operation to operation.
-use Rattle.std.proofs.Common.{◌≡◌, ◌≢◌, ℕ, zero, suc, ◌+◌, ◌<◌, Bool, true, false, if◌then◌else◌, nat_eq, List, [], ◌∷◌, ◌++◌, length, map, get_or, slice_get, Option, None, Some, Result, Ok, Err, IfOk, OnErr, refl, sym, ◌∙◌, ap, subst, arith, length-append}
+use Rattle.std.proofs.Common.{◌≡◌, ◌≢◌, ℕ, zero, suc, ◌+◌, ◌<◌, Bool, true, false, if◌then◌else◌, nat_eq, List, [], ◌∷◌, ◌++◌, length, map, get_or, Some, Result, Ok, Err, IfOk, OnErr, refl, sym, ◌∙◌, ap, subst, arith, length-append}
 use Rattle.std.proofs.lemmas.Bool.{eqb-true}
 use Rattle.std.proofs.lemmas.Bool.Decides.{nat_tests}
 use Rattle.std.proofs.lemmas.Grind.{get_or-set_at}
@@ -23,13 +23,15 @@ use Rattle.object_model.specs.Journals.{IsLegal}
 use Rattle.object_model.specs.Plain.{IsAnswerIn}
 use Rattle.object_model.specs.Steps.{OnObject, if_on_members, on_object}
 use Rattle.object_model.proofs.Suits.{suits}
-use Rattle.task_walk.specs.Tales.{IsProperAnswer, Tale, Teller, entries_after, entry_of, updated}
-use Rattle.rule_world.specs.declared.object_row.EntryHead.{EntryHead}
-use Rattle.rule_world.specs.declared.object_row.ObjectRow.{ObjectRow}
-use Rattle.rule_world.specs.declared.object_row.RowTag.{RowTag}
+use Rattle.task_walk.specs.Tales.{IsProperAnswer, Teller, entries_after, entry_of, updated}
+use Rattle.object_history.specs.declared.entry_head.EntryHead.{EntryHead}
+use Rattle.object_history.specs.declared.object_row.ObjectRow.{ObjectRow}
+use Rattle.object_history.specs.declared.tag.RowTag.{RowTag}
 use Rattle.rule_world.specs.Answers.{HasProperFault}
-use Rattle.rule_world.specs.RowProps.{legal_prop}
-use Rattle.rule_world.specs.Rows.{AreNew, AreRowsOf, IsRowOf, entry_by, journal_at, journal_of, journals_in, table_of, tag_of}
+use Rattle.object_history.specs.RowProps.{legal_prop}
+use Rattle.object_history.specs.Entries.{entry_by}
+use Rattle.object_history.specs.Rows.{journal_of, table_of, tag_of}
+use Rattle.rule_world.specs.Rows.{AreNew, AreRowsOf, IsRowOf, journals_in}
 
 -- lists in which one element is another
 

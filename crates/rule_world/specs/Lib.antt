@@ -1,6 +1,6 @@
 pub mod Answers
+pub mod BindingProps
 pub mod Bindings
 pub mod Languages
-pub mod RowProps
 pub mod Rows
 pub mod Worlds

@@ -9,7 +9,7 @@ ghost use Rattle.standard_binders.specs.Binders.{operand_count_of};
 ghost use Rattle.standard_binders.specs.Functions.{HaveFewParameters};
 ghost use Rattle.meta_object.specs.Contexts.{KeepsContext};
 ghost use Rattle.rule_world.specs.Bindings.{HasProperContent, IsBindable, IsRuleFor};
-ghost use Rattle.rule_world.specs.RowProps.{few_prop, pass_prop};
+ghost use Rattle.rule_world.specs.BindingProps.{few_prop, pass_prop};
 
 use dyn_value::{Fault, Outcome, Value};
 use expando_class::{ClassPass, ClassRef, ClassTable};

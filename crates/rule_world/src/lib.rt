@@ -2,7 +2,7 @@
 #![tactic(auto)]
 
 mod binding;
-mod object_row;
+mod operation;
 #[cfg(test)]
 mod tests;
 mod world;

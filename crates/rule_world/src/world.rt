@@ -8,11 +8,14 @@ ghost use Rattle.script_program.specs.Names.{has_short_names};
 ghost use Rattle.script_program.specs.Programs.{binders_of, functions_of, script_of};
 ghost use Rattle.rule_world.specs.Answers.{HasProperFault};
 ghost use Rattle.rule_world.specs.Languages.{functions_in};
-ghost use Rattle.rule_world.specs.Rows.{AreRowsOf, entry_by, journal_of, table_of, tag_of};
+ghost use Rattle.object_history.specs.Entries.{entry_by};
+ghost use Rattle.object_history.specs.Rows.{journal_of, table_of, tag_of};
+ghost use Rattle.rule_world.specs.Rows.{AreRowsOf};
 
 use crate::binding::{Binding, show_proper_content};
-use crate::object_row::{EntryHead, ObjectRow, Operation, RowTag};
+use crate::operation::Operation;
 use dyn_value::{Entry, Outcome, Value};
+use object_history::{EntryHead, ObjectRow, RowTag};
 use script_program::Program;
 use sqlite_items::Items;
 use standard_binders::Binder;
@@ -107,7 +110,7 @@ impl<'a> RuleWorld<'a> {
     {
         let mut journals = Items::new(alloc);
         for object in self.objects {
-            journals.push(object.into_journal())?;
+            journals.push(Items::from_vec(object.into_journal()))?;
         }
         Ok(journals)
     }
@@ -249,10 +252,11 @@ fn operate_on<R: Wait>(
     ensures table { binding.new.table ≡ binding.old.table }
     ensures functions { functions_in binding.new ≡ functions_in binding.old }
 {
-    let rule = binding.bind(rt, alloc, binder, operation.operands, Some(row.class()))?;
+    let class = row.state().class();
+    let rule = binding.bind(rt, alloc, binder, operation.operands, Some(class))?;
     let after = binding.class_after(rule.claim());
-    let ready = row.prepare(alloc, rule.body(), operation)?;
-    let outcome = row.commit(&rule, operation, ready, after);
+    let ready = row.prepare(alloc, rule.body(), operation.head, operation.operands)?;
+    let outcome = row.commit(&rule, ready, after);
     show_proper_content(&outcome);
     Ok(outcome)
 }

@@ -1,5 +1,5 @@
 use Rattle.std.proofs.Common.{◌≡◌, map}
-use Rattle.rule_world.specs.Rows.{journal_of}
+use Rattle.object_history.specs.Rows.{journal_of}
 use Rattle.rule_world.proofs.world.RuleWorld.into_journals.Given as goal
 
 abbrev pub invariant-loop-object : goal.invariant-loop-object

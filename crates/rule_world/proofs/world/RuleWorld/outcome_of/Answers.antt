@@ -15,11 +15,11 @@ use Rattle.task_code.specs.Codes.{Plan, binder_at}
 use Rattle.task_walk.specs.Tales.{IsProperAnswer, Suits, Tale, Teller}
 use Rattle.script_program.specs.Plans.{plan_of}
 use Rattle.script_program.specs.Programs.{binders_of, functions_of, sites_of}
-use Rattle.rule_world.specs.declared.object_row.RowTag.{RowTag}
+use Rattle.object_history.specs.declared.tag.RowTag.{RowTag}
 use Rattle.rule_world.specs.declared.world.RuleWorld.{RuleWorld}
 use Rattle.rule_world.specs.Answers.{HasProperFault}
 use Rattle.rule_world.specs.Languages.{functions_in}
-use Rattle.rule_world.specs.Rows.{tag_of}
+use Rattle.object_history.specs.Rows.{tag_of}
 use Rattle.rule_world.specs.Worlds.{tale_of}
 use Rattle.rule_world.proofs.BoundRules.{if_ok, on_object_split}
 use Rattle.rule_world.proofs.Entering.{binder_is, entered_none, entered_on, inside_sites, is_inside, stays_on, suit_is, suits_none, suits_on}
