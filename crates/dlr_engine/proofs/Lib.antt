@@ -1,0 +1,13 @@
+mod Answering
+mod BoundRules
+mod Commits
+mod Histories
+mod Joining
+mod PlainAnswers
+mod Serving
+mod ShortFaults
+mod Sites
+mod Starts
+mod Targets
+mod Turning
+mod TwoPasses

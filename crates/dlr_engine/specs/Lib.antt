@@ -1,0 +1,12 @@
+pub mod Answers
+pub mod BindingProps
+pub mod Bindings
+pub mod Closing
+pub mod Draws
+pub mod Engines
+pub mod Levels
+pub mod Makings
+pub mod Minds
+pub mod Operations
+pub mod PassProps
+pub mod Passes

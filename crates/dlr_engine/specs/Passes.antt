@@ -1,0 +1,142 @@
+-- What contracts see of an engine's run and of its passes.
+use mathlib.Core.Option.{some}
+use lib.ListN.{get_elem?}
+use Rattle.std.specs.Prelude.{◌<◌, slice_index_or, ◌≡◌, ◌+◌, ◌++◌, ℕ, List, [], ◌∷◌, length}
+use Rattle.dyn_value.specs.declared.entry.Entry.{Entry}
+use Rattle.object_history.specs.declared.object_row.ObjectRow.{ObjectRow}
+use Rattle.object_history.specs.Histories.{by_of}
+use Rattle.object_history.specs.Rows.{journal_of}
+use Rattle.script_program.specs.declared.program.Program.{Program}
+use Rattle.script_program.specs.Plans.{plan_of}
+use Rattle.script_program.specs.Programs.{script_of}
+use Rattle.task_code.specs.Codes.{Plan}
+use Rattle.turn_rows.specs.declared.view.Log.{Log}
+use Rattle.turn_rows.specs.Passes as turns
+use Rattle.dlr_engine.specs.declared.answer.Levels.{Levels}
+use Rattle.dlr_engine.specs.declared.pass.Drawn.{Drawn}
+use Rattle.dlr_engine.specs.declared.pass.Pass.{Pass}
+use Rattle.dlr_engine.specs.declared.run.Run.{Run}
+use Rattle.dlr_engine.specs.Levels.{total}
+use Rattle.dlr_engine.specs.Minds as minds
+
+abbrev pub program_in : Run → Program
+program_in run = run.program.now
+
+-- what its operations are made by
+abbrev pub plan_in : Run → Plan
+plan_in run = plan_of (program_in run)
+
+-- how many objects there may be
+abbrev pub limit_in : Run → ℕ
+limit_in run = run.tag.limit
+
+-- how many objects its tasks share
+abbrev pub shared_in : Run → ℕ
+shared_in run = length (script_of (program_in run)).shared
+
+-- what a pass knows of the rows
+abbrev pub log_in : Pass → Log ObjectRow
+log_in p = turns.log_of p.rows
+
+abbrev pub number_of : Pass → ℕ
+number_of p = (log_in p).number
+
+-- how many passes were made, as the first one knows; 0 in any other
+abbrev pub made_in : Pass → ℕ
+made_in p = (log_in p).made
+
+abbrev pub drawn_of : Pass → List Drawn
+drawn_of p = p.drawn.items
+
+abbrev pub levels_of : Pass → Levels
+levels_of p = p.levels
+
+-- how often it bound
+abbrev pub binds_of : Pass → ℕ
+binds_of p = minds.binds_in p.mind
+
+-- how many operations and draws were asked
+abbrev pub calls_of : Pass → ℕ
+calls_of p = p.calls
+
+-- what it has seen of a row's history
+abbrev pub seen_in : Log ObjectRow → ℕ → List Entry
+seen_in c row = turns.seen_in journal_of c row
+
+abbrev pub seen_of : Pass → ℕ → List Entry
+seen_of p row = seen_in (log_in p) row
+
+-- the entries that it made there
+abbrev pub mine_in : Log ObjectRow → ℕ → List Entry
+mine_in c row = turns.mine_in journal_of by_of c row
+
+abbrev pub mine_of : Pass → ℕ → List Entry
+mine_of p row = mine_in (log_in p) row
+
+-- what the passes know that were joined to it
+abbrev pub kept_in : Pass → List (Log ObjectRow)
+kept_in p = turns.kept_of p.rows
+
+-- what it knows, and what those know
+abbrev pub logs_in : Pass → List (Log ObjectRow)
+logs_in p = turns.logs_of p.rows
+
+-- it is a pass of the run
+pub record IsPassOf (run : Run) (p : Pass) : Type 0 where
+  pub rows : turns.IsPassOf run.rows p.rows
+  pub table : minds.table_in p.mind ≡ run.table
+
+-- these are passes of the run, and the numbers of those are from 1 on
+pub record AreOthers (run : Run) (ps : List Pass) : Type 0 where
+  pub own : (k : ℕ) (d : Pass) → k < length ps → IsPassOf run (slice_index_or ps k d)
+  pub numbers : (k : ℕ) (d : Pass) → k < length ps → number_of (slice_index_or ps k d) ≡ k + 1
+
+-- its number, its count of passes and the passes that were joined to it stay
+abbrev pub IsSamePass : Pass → Pass → Type 0
+IsSamePass old new = turns.IsSamePass old.rows new.rows
+
+-- It has seen, made, drawn, counted and bound nothing, and no pass was joined to it.
+pub record IsNew (p : Pass) : Type 0 where
+  pub seen : (row : ℕ) → seen_of p row ≡ []
+  pub drawn : drawn_of p ≡ []
+  pub levels : total (levels_of p) ≡ 0
+  pub binds : binds_of p ≡ 0
+  pub calls : calls_of p ≡ 0
+  pub kept : kept_in p ≡ []
+
+-- what it counts and how often it bound stay
+pub record IsUncounted (old new : Pass) : Type 0 where
+  pub levels : levels_of new ≡ levels_of old
+  pub binds : binds_of new ≡ binds_of old
+
+-- nothing of it changes but the count of passes that it made
+pub record IsUntaken (old new : Pass) : Type 0 where
+  pub number : number_of new ≡ number_of old
+  pub rows : (log_in new).rows ≡ (log_in old).rows
+  pub drawn : drawn_of new ≡ drawn_of old
+  pub uncounted : IsUncounted old new
+  pub calls : calls_of new ≡ calls_of old
+  pub kept : kept_in new ≡ kept_in old
+
+-- the other pass was joined to it: it keeps what that one knows beside what it keeps, and nothing else of it changes
+pub record IsJoined (other old new : Pass) : Type 0 where
+  pub log : log_in new ≡ log_in old
+  pub kept : kept_in new ≡ kept_in old ++ logs_in other
+  pub drawn : drawn_of new ≡ drawn_of old
+  pub uncounted : IsUncounted old new
+  pub calls : calls_of new ≡ calls_of old
+
+-- this is one of what passes know
+abbrev pub IsAmong : Log ObjectRow → List (Log ObjectRow) → Type 0
+IsAmong c cs = (i : ℕ) × (get_elem? cs i ≡ some c)
+
+-- what each of these passes knows is there
+abbrev pub AreKept : List Pass → List (Log ObjectRow) → Type 0
+AreKept ps cs = (k : ℕ) (d : Pass) → k < length ps → IsAmong (log_in (slice_index_or ps k d)) cs
+
+-- this was drawn: it stands at the end of the pass's draws, and what the pass knows of the rows is as it was
+pub record IsDrawnBy (d : Drawn) (old new : Pass) : Type 0 where
+  pub rows : (log_in new).rows ≡ (log_in old).rows
+  pub drawn : drawn_of new ≡ drawn_of old ++ d ∷ []
+  pub uncounted : IsUncounted old new
+  pub calls : calls_of new ≡ calls_of old + 1

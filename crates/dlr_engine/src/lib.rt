@@ -1,0 +1,21 @@
+//! The engine: objects on which tasks operate in turns, each operation bound where it is made, and each object with the
+//! one history of the operations on it.
+#![tactic(auto)]
+
+mod answer;
+mod binding;
+mod closed;
+mod engine;
+mod making;
+mod mind;
+mod operation;
+mod pass;
+mod run;
+#[cfg(test)]
+mod tests;
+mod turn;
+
+pub use answer::{Answer, Level, Levels};
+pub use closed::Closed;
+pub use engine::Engine;
+pub use pass::{Drawn, Pass};
