@@ -1,2 +1,10 @@
 mod Numerals
-mod OptionWords
+mod Rows
+mod RunRules
+mod Turns
+mod Forms
+mod Kept
+mod Totals
+mod Reading
+mod Parses
+mod Answers

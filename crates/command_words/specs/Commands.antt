@@ -1,12 +1,13 @@
 -- The words of the command, in UTF-8.
-use Rattle.std.specs.Prelude.{◌≡◌, ℕ, ◌<◌, ◌≤◌, nat_lt, Bool, true, false, not, ◌&&◌, ◌||◌, if◌then◌else◌, List, [], ◌∷◌, length, map, Option, None, Some, IfSome, is_none, unwrap_or, option_map, option_and_then, codes, encode_utf8_all, ◌==◌}
+use Rattle.std.specs.Prelude.{ℕ, ◌≤◌, ◌==◌, nat_lt, Bool, true, false, not, ◌&&◌, ◌||◌, if◌then◌else◌}
+use Rattle.std.specs.Prelude.{List, [], ◌∷◌, length, map, codes, encode_utf8_all}
+use Rattle.std.specs.Prelude.{Option, None, Some, is_none, option_map, option_and_then}
 use Rattle.std.specs.Char.{is_ascii_digit}
 use Rattle.std.specs.List.{after_first, before_first, list_all, position_or_len}
 use Rattle.std.specs.Str.{bytes_eq}
 use Rattle.std.specs.Str.Parse.{digits_value}
 use Rattle.command_words.specs.declared.words.Command.{Command}
 use Rattle.command_words.specs.declared.words.Command.TheVariants.{Run, Check}
-use Rattle.command_words.specs.declared.words.Given.{Given}
 use Rattle.command_words.specs.declared.words.Options.{Options}
 
 -- the number that one to ten decimal digits write
@@ -15,26 +16,29 @@ number_of text =
     if nat_lt 0 (length text) && nat_lt (length text) 11 && list_all is_ascii_digit text
     then Some (digits_value 10 text) else None
 
--- from 1 to 1,000,000 turns, given once
-abbrev pub with_turns : ℕ → Given → Option Given
-with_turns n g = if is_none g.turns && nat_lt 0 n && nat_lt n 1000001
-    then Some (record { serial = g.serial; journal = g.journal; turns = Some n; objects = g.objects }) else None
+-- the number, where it lies from `low` to `high`
+abbrev pub within : ℕ → ℕ → ℕ → Option ℕ
+within low high n = if nat_lt n low || nat_lt high n then None else Some n
 
--- at most 4,032 objects, given once
-abbrev pub with_objects : ℕ → Given → Option Given
-with_objects n g = if is_none g.objects && nat_lt n 4033
-    then Some (record { serial = g.serial; journal = g.journal; turns = g.turns; objects = Some n }) else None
+-- the number from `low` to `high` that the text writes, and `default` where there is no text
+abbrev pub number_within : ℕ → ℕ → ℕ → Option (List ℕ) → Option ℕ
+number_within low high default None = Some default
+number_within low high default (Some text) = option_and_then (within low high) (number_of text)
 
--- an option of this name and number
-abbrev pub with_number : List ℕ → Given → ℕ → Option Given
-with_number name g n =
-    if bytes_eq name (codes "--turns") then with_turns n g else
-    if bytes_eq name (codes "--objects") then with_objects n g else None
+-- the options given, each at most once, with the texts of their values
+pub record Given : Type 0 where
+  pub serial : Bool
+  pub journal : Bool
+  pub turns : Option (List ℕ)
+  pub objects : Option (List ℕ)
 
--- an option of this name and value
+-- an option with a value, given once
 abbrev pub with_value : List ℕ → List ℕ → Given → Option Given
-with_value name value g = option_and_then (with_number name g) (number_of value)
+with_value name value g =
+    if bytes_eq name (codes "--turns") && is_none g.turns then Some (record g { turns = Some value }) else
+    if bytes_eq name (codes "--objects") && is_none g.objects then Some (record g { objects = Some value }) else None
 
+-- the character is `=`
 abbrev pub is_equals : ℕ → Bool
 is_equals c = c == 61
 
@@ -46,10 +50,8 @@ with_equals word g = if nat_lt (position_or_len is_equals word) (length word)
 -- the option that this word is by itself
 abbrev pub with_word : List ℕ → Given → Option Given
 with_word word g =
-    if bytes_eq word (codes "--serial") && not g.serial
-    then Some (record { serial = true; journal = g.journal; turns = g.turns; objects = g.objects }) else
-    if bytes_eq word (codes "--journal") && not g.journal
-    then Some (record { serial = g.serial; journal = true; turns = g.turns; objects = g.objects }) else
+    if bytes_eq word (codes "--serial") && not g.serial then Some (record g { serial = true }) else
+    if bytes_eq word (codes "--journal") && not g.journal then Some (record g { journal = true }) else
     with_equals word g
 
 -- the name of an option whose value stands in the next word
@@ -64,24 +66,28 @@ options_after (word ∷ value ∷ words) g =
     if takes_next_word word then option_and_then (options_after words) (with_value word value g)
     else option_and_then (options_after (value ∷ words)) (with_word word g)
 
+-- before any option
 abbrev pub none_given : Given
 none_given = record { serial = false; journal = false; turns = None; objects = None }
 
--- the options of a run: 100,000 turns and 4,032 objects where no number is given
-abbrev pub options_by : Given → Options
-options_by g = record {
-  serial = g.serial;
-  journal = g.journal;
-  turns = unwrap_or g.turns 100000;
-  objects = unwrap_or g.objects 4032;
-}
+-- the options of a run, with these numbers of turns and objects
+abbrev pub options_with : Given → ℕ → ℕ → Options
+options_with g turns objects = record { serial = g.serial; journal = g.journal; turns = turns; objects = objects }
 
+-- From 1 to 1,000,000 turns, and 100,000 where no number is given; at most 4,032 objects, and so many where none is.
+abbrev pub options_by : Given → Option Options
+options_by g = option_and_then (λ turns. option_map (options_with g turns) (number_within 0 4032 4032 g.objects))
+    (number_within 1 1000000 100000 g.turns)
+
+-- the options of a run with these words after `run`
 abbrev pub options_given : List (List ℕ) → Option Options
-options_given words = option_map options_by (options_after (map encode_utf8_all words) none_given)
+options_given words = option_and_then options_by (options_after (map encode_utf8_all words) none_given)
 
+-- the word has this text
 abbrev pub is_word : List ℕ → List ℕ → Bool
 is_word word text = bytes_eq (encode_utf8_all word) text
 
+-- `check`, where no word is left
 abbrev pub only_word : List (List ℕ) → Option Command
 only_word [] = Some Check
 only_word _ = None
@@ -94,16 +100,7 @@ command_of (word ∷ words) =
     if is_word word (codes "run") then option_map Run (options_given words) else
     if is_word word (codes "check") then only_word words else None
 
--- after a first option, which may have taken two of the words, the rest are read with more given
-abbrev pub GoesOn : List (List ℕ) → Given → Given → List (List ℕ) → Type 0
-GoesOn words given more rest =
-    (options_after (map encode_utf8_all words) given ≡ options_after (map encode_utf8_all rest) more)
-    × (length rest < length words)
-
--- at most 4,032 objects, where a number is given
-abbrev pub HasFewObjects : Given → Type 0
-HasFewObjects g = IfSome g.objects (λ n. n ≤ 4032)
-
+-- at most 4,032 objects
 abbrev pub AreWithinLimits : Options → Type 0
 AreWithinLimits o = o.objects ≤ 4032
 

@@ -2,8 +2,9 @@
 #![tactic(auto)]
 
 mod numbers;
+mod parsing;
 #[cfg(test)]
 mod tests;
 mod words;
 
-pub use words::{Command, Options, read_words};
+pub use words::{Command, Options, WordsRefused, read_words};

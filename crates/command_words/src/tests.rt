@@ -12,7 +12,11 @@ fn asked(alloc: Global, line: &str) -> Result<Option<Command>, AllocError> {
             words.push(text)?;
         }
     }
-    Ok(read_words(words.as_slice()))
+    match read_words(alloc, words.as_slice()) {
+        Ok(command) => Ok(Some(command)),
+        Err(WordsRefused::Bad) => Ok(None),
+        Err(WordsRefused::Memory) => Err(AllocError),
+    }
 }
 
 // The words ask for a run with these options.
@@ -101,7 +105,7 @@ fn numbers_are_read_up_to_their_limits(rt: HostRuntime) -> Result<(), Fail> {
 fn other_words_are_no_command(rt: HostRuntime) -> Result<(), Fail> {
     let alloc = rt.alloc();
     assert!(rt; matches!(asked(alloc, "check")?, Some(Command::Check)));
-    assert!(rt; read_words(&[]).is_none());
+    assert!(rt; matches!(read_words(alloc, &[]), Err(WordsRefused::Bad)));
     for line in [
         "go",
         "Run",

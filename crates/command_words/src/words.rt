@@ -1,8 +1,14 @@
-ghost use Rattle.std.specs.Prelude.{◌≡◌, ◌<◌, encode_utf8_all, length, map, IfSome, None, MatchOption};
-ghost use Rattle.command_words.specs.Commands.{AreWithinLimits, GoesOn, HasFewObjects, IsWithinLimits, command_of, options_after, takes_next_word, with_value, with_word, with_turns, with_objects, options_given};
+ghost use Rattle.std.specs.Prelude.{◌≡◌, ◌≢◌, [], Err, IfOk, None, Some, option_map};
+ghost use Rattle.command_words.specs.Commands.{AreWithinLimits, IsWithinLimits, command_of};
+ghost use Rattle.command_words.specs.Commands.{Given, number_within, options_by, options_given};
+ghost use Rattle.command_words.specs.Parsers.{HasGiven};
 
 use crate::numbers::number_in;
+use crate::parsing::{check_command, parsed, run_command, texts_of};
+use clap::ArgMatches;
 use dyn_value::DynText;
+use std::alloc::{AllocError, Global};
+use thiserror::Error;
 
 /// What the words ask for.
 #[derive(Clone, Copy, Debug)]
@@ -16,7 +22,7 @@ pub enum Command {
 /// What is asked of a run.
 #[derive(Clone, Copy, Debug)]
 pub struct Options {
-    /// The tasks run one after the other. So far they always do.
+    /// The tasks run one after the other, and not beside each other.
     pub serial: bool,
     /// The objects' journals are written.
     pub journal: bool,
@@ -26,129 +32,91 @@ pub struct Options {
     pub objects: u32,
 }
 
-/// The options that were given so far, each at most once.
-#[derive(Clone, Copy, Debug)]
-struct Given {
-    serial: bool,
-    journal: bool,
-    turns: Option<u32>,
-    objects: Option<u32>,
+/// Why words gave no command.
+#[derive(Clone, Copy, Debug, Error)]
+pub enum WordsRefused {
+    /// The words are no command.
+    #[error("the words are no command")]
+    Bad,
+    /// Memory ran out before the words were read.
+    #[error("out of memory")]
+    Memory,
 }
 
-/// What the words ask for; `None` where they are no command.
-pub fn read_words(words: &[DynText]) -> Option<Command>
-    ensures command { result ≡ command_of words.now }
-    ensures limits { IfSome result IsWithinLimits }
+impl From<AllocError> for WordsRefused {
+    ghost use Rattle.command_words.specs.declared.words.WordsRefused.TheVariants.{Memory};
+
+    ghost from_gives = { λ _ refused. refused ≡ Memory };
+
+    fn from(_: AllocError) -> WordsRefused {
+        WordsRefused::Memory
+    }
+}
+
+/// What the words ask for; `clap` reads those after the first. The error is [`WordsRefused::Bad`] only where they are
+/// no command, and [`WordsRefused::Memory`] only for want of memory.
+pub fn read_words(alloc: Global, words: &[DynText]) -> Result<Command, WordsRefused>
+    ensures command { IfOk result (λ c. command_of words.now ≡ Some c) }
+    ensures limits { IfOk result IsWithinLimits }
+    ensures refused { result ≡ Err WordsRefused.Bad → command_of words.now ≡ None }
 {
     match words {
-        [word] if word.as_str() == "check" => Some(Command::Check),
-        [word, options @ ..] if word.as_str() == "run" => Some(Command::Run(options_in(options)?)),
-        _ => None,
+        [word, rest @ ..] if word.as_str() == "run" => Ok(Command::Run(options_in(alloc, rest)?)),
+        [word, rest @ ..] if word.as_str() == "check" => {
+            nothing_in(alloc, rest)?;
+            Ok(Command::Check)
+        }
+        _ => Err(WordsRefused::Bad),
     }
 }
 
 /// The options of these words, in any order, each at most once.
-fn options_in(words: &[DynText]) -> Option<Options>
-    ensures options { result ≡ options_given words.now }
-    ensures limits { IfSome result AreWithinLimits }
+fn options_in(alloc: Global, words: &[DynText]) -> Result<Options, WordsRefused>
+    ensures options { IfOk result (λ o. options_given words.now ≡ Some o) }
+    ensures limits { IfOk result AreWithinLimits }
+    ensures refused { result ≡ Err WordsRefused.Bad → options_given words.now ≡ None }
 {
-    let mut given = Given {
-        serial: false,
-        journal: false,
-        turns: None,
-        objects: None,
-    };
-    let mut rest = words;
-    while !rest.is_empty() {
-        (given, rest) = one_option(rest, given)?;
-    }
+    let texts = texts_of(alloc, words)?;
+    let command = run_command(alloc)?;
+    let matches = parsed(command, texts.as_slice())?;
+    options_of(&matches).ok_or(WordsRefused::Bad)
+}
+
+/// There is no word.
+fn nothing_in(alloc: Global, words: &[DynText]) -> Result<(), WordsRefused>
+    ensures none { IfOk result (λ _. words.now ≡ []) }
+    ensures refused { result ≡ Err WordsRefused.Bad → words.now ≢ [] }
+{
+    let texts = texts_of(alloc, words)?;
+    let command = check_command(alloc);
+    parsed(command, texts.as_slice())?;
+    Ok(())
+}
+
+/// The options that were found, with the numbers that their texts write.
+fn options_of(matches: &ArgMatches<'_>) -> Option<Options>
+    ensures { (g : Given) → HasGiven g matches.now → result ≡ options_by g }
+{
+    let turns = number_within(matches.get_str("turns"), 1, 1_000_000, 100_000)?;
+    let objects = number_within(matches.get_str("objects"), 0, 4032, 4032)?;
     Some(Options {
-        serial: given.serial,
-        journal: given.journal,
-        turns: given.turns.unwrap_or(100_000),
-        objects: given.objects.unwrap_or(4032),
+        serial: matches.get_flag("serial"),
+        journal: matches.get_flag("journal"),
+        turns,
+        objects,
     })
 }
 
-/// The options with the first of these, whose value may stand in the word after it, and the words that follow it.
-fn one_option(words: &[DynText], given: Given) -> Option<(Given, &[DynText])>
-    requires some { 0 < length words.now }
-    ensures taken { MatchOption result (options_after (map encode_utf8_all words.now) given ≡ None)
-        (λ more. GoesOn words.now given more.0 more.1.now) }
-    ensures few { HasFewObjects given → IfSome result (λ more. HasFewObjects more.0) }
+/// The number from `low` to `high` that the text writes; `default` where there is no text.
+fn number_within(text: Option<&str>, low: u32, high: u32, default: u32) -> Option<u32>
+    ensures { result ≡ number_within low high default (option_map (λ t. t.now) text.entry) }
 {
-    match words {
-        [name, value, rest @ ..] if takes_value(name.as_str()) => {
-            Some((with_value_of(name.as_str(), value.as_str(), given)?, rest))
-        }
-        [word, rest @ ..] => Some((with_one_word(word.as_str(), given)?, rest)),
-        [] => None,
-    }
-}
-
-/// Whether the word is the name of an option that has a value.
-fn takes_value(word: &str) -> bool
-    ensures { result ≡ takes_next_word word.now }
-{
-    word == "--turns" || word == "--objects"
-}
-
-/// The options with the one that this word is by itself.
-fn with_one_word(word: &str, given: Given) -> Option<Given>
-    ensures more { result ≡ with_word word.now given }
-    ensures few { HasFewObjects given → IfSome result HasFewObjects }
-{
-    if word == "--serial" && !given.serial {
-        return Some(Given {
-            serial: true,
-            ..given
-        });
-    }
-    if word == "--journal" && !given.journal {
-        return Some(Given {
-            journal: true,
-            ..given
-        });
-    }
-    let (name, value) = word.split_once('=')?;
-    with_value_of(name, value, given)
-}
-
-/// The options with the one of this name and value.
-fn with_value_of(name: &str, value: &str, given: Given) -> Option<Given>
-    ensures more { result ≡ with_value name.now value.now given }
-    ensures few { HasFewObjects given → IfSome result HasFewObjects }
-{
-    let number = number_in(value)?;
-    match name {
-        "--turns" => with_turn_limit(number, given),
-        "--objects" => with_object_limit(number, given),
-        _ => None,
-    }
-}
-
-fn with_turn_limit(number: u64, given: Given) -> Option<Given>
-    ensures more { result ≡ with_turns number given }
-    ensures few { HasFewObjects given → IfSome result HasFewObjects }
-{
-    if given.turns.is_some() || number < 1 || number > 1_000_000 {
+    let Some(text) = text else {
+        return Some(default);
+    };
+    let number = number_in(text)?;
+    if number < u64::from(low) || number > u64::from(high) {
         return None;
     }
-    Some(Given {
-        turns: Some(number as u32),
-        ..given
-    })
-}
-
-fn with_object_limit(number: u64, given: Given) -> Option<Given>
-    ensures more { result ≡ with_objects number given }
-    ensures few { HasFewObjects given → IfSome result HasFewObjects }
-{
-    if given.objects.is_some() || number > 4032 {
-        return None;
-    }
-    Some(Given {
-        objects: Some(number as u32),
-        ..given
-    })
+    Some(number as u32)
 }
