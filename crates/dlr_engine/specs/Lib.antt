@@ -4,9 +4,11 @@ pub mod Bindings
 pub mod Closing
 pub mod Draws
 pub mod Engines
+pub mod Gatherings
 pub mod Levels
 pub mod Makings
 pub mod Minds
 pub mod Operations
 pub mod PassProps
 pub mod Passes
+pub mod Tagged

@@ -1,5 +1,5 @@
 -- That a pass is one of a run has at most one proof.
-use Rattle.std.specs.Prelude.{◌≡◌, ℕ, List}
+use Rattle.std.specs.Prelude.{◌≡◌, ◌<◌, ℕ, List, length}
 use Rattle.std.specs.List.{AllByRecursion, AllByRecursion-prop}
 use Rattle.std.proofs.Props.{props}
 use mathlib.Core.HLevel.{prop→set}
@@ -20,7 +20,7 @@ use Rattle.dlr_engine.specs.declared.pass.Pass.{Pass}
 use Rattle.dlr_engine.specs.declared.run.Run.{Run}
 use Rattle.dlr_engine.specs.BindingProps.{proper_prop, value_prop}
 use Rattle.dlr_engine.specs.Minds.{table_in}
-use Rattle.dlr_engine.specs.Passes.{IsPassOf}
+use Rattle.dlr_engine.specs.Passes.{IsPartOf, IsPassOf, kept_in, made_in, number_of, passes_in}
 
 legal_set : (binders : List Binder) (ms : Members) (es : List Entry) → IsSet (IsLegal binders ms es)
 legal_set binders ms es = prop→set (legal_prop binders ms es)
@@ -54,8 +54,22 @@ rows_prop run p = Prim.hlevel (props, legal_set, class_set, entries_set)
 table_prop : (a b : ClassTable) → IsProp (a ≡ b)
 table_prop a b = Prim.hlevel props
 
-pub is_pass_prop : (run : Run) (p : Pass) → IsProp (IsPassOf run p)
-is_pass_prop run p = λ one other i. record {
+part_prop : (run : Run) (p : Pass) → IsProp (IsPartOf run p)
+part_prop run p = λ one other i. record {
   rows = rows_prop run p one.rows other.rows i;
   table = table_prop (table_in p.mind) run.table one.table other.table i;
+}
+
+number_prop : (m n : ℕ) → IsProp (m ≡ n)
+number_prop m n = Prim.hlevel props
+
+below_prop : (m n : ℕ) → IsProp (m < n)
+below_prop m n = Prim.hlevel props
+
+pub is_pass_prop : (run : Run) (p : Pass) → IsProp (IsPassOf run p)
+is_pass_prop run p = λ one other i. record {
+  part = part_prop run p one.part other.part i;
+  below = below_prop (number_of p) (passes_in run) one.below other.below i;
+  first = λ first. number_prop (made_in p) (passes_in run) (one.first first) (other.first first) i;
+  apart = number_prop (length (kept_in p)) 0 one.apart other.apart i;
 }

@@ -1,7 +1,5 @@
 -- What contracts see of an engine's run and of its passes.
-use mathlib.Core.Option.{some}
-use lib.ListN.{get_elem?}
-use Rattle.std.specs.Prelude.{◌<◌, slice_index_or, ◌≡◌, ◌+◌, ◌++◌, ℕ, List, [], ◌∷◌, length}
+use Rattle.std.specs.Prelude.{◌≡◌, ℕ, ◌+◌, ◌<◌, List, [], ◌∷◌, ◌++◌, length, map, slice_index_or}
 use Rattle.dyn_value.specs.declared.entry.Entry.{Entry}
 use Rattle.object_history.specs.declared.object_row.ObjectRow.{ObjectRow}
 use Rattle.object_history.specs.Histories.{by_of}
@@ -16,6 +14,7 @@ use Rattle.dlr_engine.specs.declared.answer.Levels.{Levels}
 use Rattle.dlr_engine.specs.declared.pass.Drawn.{Drawn}
 use Rattle.dlr_engine.specs.declared.pass.Pass.{Pass}
 use Rattle.dlr_engine.specs.declared.run.Run.{Run}
+use Rattle.dlr_engine.specs.Draws.{number_drawn}
 use Rattle.dlr_engine.specs.Levels.{total}
 use Rattle.dlr_engine.specs.Minds as minds
 
@@ -29,6 +28,10 @@ plan_in run = plan_of (program_in run)
 -- how many objects there may be
 abbrev pub limit_in : Run → ℕ
 limit_in run = run.tag.limit
+
+-- how many passes it has
+abbrev pub passes_in : Run → ℕ
+passes_in run = run.passes
 
 -- how many objects its tasks share
 abbrev pub shared_in : Run → ℕ
@@ -47,6 +50,10 @@ made_in p = (log_in p).made
 
 abbrev pub drawn_of : Pass → List Drawn
 drawn_of p = p.drawn.items
+
+-- the numbers that it drew
+abbrev pub numbers_of : Pass → List ℕ
+numbers_of p = map number_drawn (drawn_of p)
 
 abbrev pub levels_of : Pass → Levels
 levels_of p = p.levels
@@ -81,15 +88,23 @@ kept_in p = turns.kept_of p.rows
 abbrev pub logs_in : Pass → List (Log ObjectRow)
 logs_in p = turns.logs_of p.rows
 
--- it is a pass of the run
-pub record IsPassOf (run : Run) (p : Pass) : Type 0 where
+-- it is a pass of the run, while passes are made or joined
+pub record IsPartOf (run : Run) (p : Pass) : Type 0 where
   pub rows : turns.IsPassOf run.rows p.rows
   pub table : minds.table_in p.mind ≡ run.table
 
--- these are passes of the run, and the numbers of those are from 1 on
-pub record AreOthers (run : Run) (ps : List Pass) : Type 0 where
+-- it is a pass of the run, all of whose passes were made, and none was joined to it
+pub record IsPassOf (run : Run) (p : Pass) : Type 0 where
+  pub part : IsPartOf run p
+  pub below : number_of p < passes_in run
+  pub first : number_of p ≡ 0 → made_in p ≡ passes_in run
+  pub apart : length (kept_in p) ≡ 0
+
+-- these are all passes of the run, each at the place of its number
+pub record ArePasses (run : Run) (ps : List Pass) : Type 0 where
+  pub count : length ps ≡ passes_in run
   pub own : (k : ℕ) (d : Pass) → k < length ps → IsPassOf run (slice_index_or ps k d)
-  pub numbers : (k : ℕ) (d : Pass) → k < length ps → number_of (slice_index_or ps k d) ≡ k + 1
+  pub numbers : (k : ℕ) (d : Pass) → k < length ps → number_of (slice_index_or ps k d) ≡ k
 
 -- its number, its count of passes and the passes that were joined to it stay
 abbrev pub IsSamePass : Pass → Pass → Type 0
@@ -104,6 +119,10 @@ pub record IsNew (p : Pass) : Type 0 where
   pub calls : calls_of p ≡ 0
   pub kept : kept_in p ≡ []
 
+-- each of them has done nothing
+abbrev pub AreNew : List Pass → Type 0
+AreNew ps = (k : ℕ) (d : Pass) → k < length ps → IsNew (slice_index_or ps k d)
+
 -- what it counts and how often it bound stay
 pub record IsUncounted (old new : Pass) : Type 0 where
   pub levels : levels_of new ≡ levels_of old
@@ -117,22 +136,6 @@ pub record IsUntaken (old new : Pass) : Type 0 where
   pub uncounted : IsUncounted old new
   pub calls : calls_of new ≡ calls_of old
   pub kept : kept_in new ≡ kept_in old
-
--- the other pass was joined to it: it keeps what that one knows beside what it keeps, and nothing else of it changes
-pub record IsJoined (other old new : Pass) : Type 0 where
-  pub log : log_in new ≡ log_in old
-  pub kept : kept_in new ≡ kept_in old ++ logs_in other
-  pub drawn : drawn_of new ≡ drawn_of old
-  pub uncounted : IsUncounted old new
-  pub calls : calls_of new ≡ calls_of old
-
--- this is one of what passes know
-abbrev pub IsAmong : Log ObjectRow → List (Log ObjectRow) → Type 0
-IsAmong c cs = (i : ℕ) × (get_elem? cs i ≡ some c)
-
--- what each of these passes knows is there
-abbrev pub AreKept : List Pass → List (Log ObjectRow) → Type 0
-AreKept ps cs = (k : ℕ) (d : Pass) → k < length ps → IsAmong (log_in (slice_index_or ps k d)) cs
 
 -- this was drawn: it stands at the end of the pass's draws, and what the pass knows of the rows is as it was
 pub record IsDrawnBy (d : Drawn) (old new : Pass) : Type 0 where

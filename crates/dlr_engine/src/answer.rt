@@ -41,12 +41,13 @@ pub struct Levels {
 }
 
 impl Levels {
-    ghost use Rattle.dlr_engine.specs.Levels.{raised, total};
+    ghost use Rattle.dlr_engine.specs.Levels.{added, no_levels, raised, total};
     ghost use Rattle.std.specs.Prelude.{◌≡◌, ◌^◌, ◌<◌, ◌+◌, ◌-◌};
 
     /// No operation was answered.
     pub(crate) fn none() -> Levels
-        ensures { total result ≡ 0 }
+        ensures none { result ≡ no_levels }
+        ensures total { total result ≡ 0 }
     {
         Levels {
             target: 0,
@@ -68,5 +69,17 @@ impl Levels {
             Level::Binder => self.binder += 1,
             Level::Bind => self.binds += 1,
         }
+    }
+
+    /// Those of the other besides, at each level.
+    pub(crate) fn add(&mut self, other: &Levels)
+        requires { total self.old + total other.now < 2 ^ 64 }
+        ensures added { self.new ≡ added self.old other.now }
+        ensures total { total self.new ≡ total self.old + total other.now }
+    {
+        self.target += other.target;
+        self.site += other.site;
+        self.binder += other.binder;
+        self.binds += other.binds;
     }
 }

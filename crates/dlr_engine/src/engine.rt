@@ -29,39 +29,44 @@ pub struct Engine<'p, L: Language + Drop> {
 }
 
 impl<'p, L: Language + Drop> Engine<'p, L> {
-    ghost use Rattle.std.specs.Prelude.{◌≡◌, ◌+◌, ◌^◌, ◌<◌, ◌≤◌, ◌++◌, ◌∷◌, ℕ, [], true, length, IfOk, None, OnErr, OnOk, Some, slice_get};
+    ghost use Rattle.std.specs.Prelude.{◌≡◌, ◌+◌, ◌^◌, ◌<◌, ◌≤◌, ℕ, true, length, map, IfOk, None, OnErr, OnOk, Some, slice_get};
     ghost use Rattle.script_program.specs.Names.{has_short_names};
     ghost use Rattle.script_program.specs.Programs.{script_of};
     ghost use Rattle.object_model.specs.Steps.{on_object};
     ghost use Rattle.rule_model.specs.Soundness.{Suit};
     ghost use Rattle.task_code.specs.Fits.{IsSite};
-    ghost use Rattle.turn_rows.specs.Passes.{AllDrawn, HasAll};
     ghost use Rattle.dlr_engine.specs.declared.answer.Level.TheVariants as level;
     ghost use Rattle.dlr_engine.specs.Draws.{drawn_for};
     ghost use Rattle.dlr_engine.specs.Engines.{run_of};
     ghost use Rattle.dlr_engine.specs.Operations.{AreProper, IsAnswered, IsCounted, IsPlainAnswer, IsProperAnswer, IsRefused, IsTaken, HasMadeAnswer};
-    ghost use Rattle.dlr_engine.specs.Passes.{calls_of, drawn_of, kept_in, limit_in, log_in, logs_in, made_in, number_of, plan_in, program_in, shared_in, AreKept, AreOthers, IsDrawnBy, IsJoined, IsNew, IsPassOf, IsSamePass, IsUntaken};
-    ghost use Rattle.dlr_engine.specs.Closing.{journals_in, IsClosedRow};
+    ghost use Rattle.dlr_engine.specs.Passes.{calls_of, drawn_of, levels_of, limit_in, log_in, made_in, number_of, passes_in, plan_in, program_in, shared_in, AreNew, ArePasses, IsDrawnBy, IsPartOf, IsPassOf, IsSamePass, IsUntaken};
+    ghost use Rattle.dlr_engine.specs.Levels.{all_levels};
+    ghost use Rattle.dlr_engine.specs.Closing.{drawn_in, journals_in, levels_in, AreDrawn, IsClosedRow};
 
-    /// An engine for a program, with so many objects beside the shared ones, and its first pass. The one error is want
-    /// of memory.
+    /// An engine for a program, with so many objects beside the shared ones, and its passes, which have done nothing.
+    ///
+    /// All that [`close`](Engine::close) fills is taken here. The one error is want of memory.
     pub fn start(
         alloc: Global,
         program: &'p Program,
         lang: L,
         objects: u32,
-    ) -> Result<(Engine<'p, L>, Pass<'p>), AllocError>
+        passes: u32,
+    ) -> Result<(Engine<'p, L>, Vec<Pass<'p>>), AllocError>
         requires objects { objects ≤ 4032 }
+        requires some { 0 < passes }
+        requires few_passes { passes ≤ 8 }
         requires functions { L.functions lang ≡ functions_of program.now }
         requires few { HaveFewParameters (L.functions lang) }
         ensures program { IfOk result (λ r. program_in (run_of r.0) ≡ program.now) }
         ensures limit { IfOk result (λ r. limit_in (run_of r.0) ≡ shared_in (run_of r.0) + objects) }
-        ensures own { IfOk result (λ r. IsPassOf (run_of r.0) r.1) }
-        ensures first { IfOk result (λ r. (number_of r.1 ≡ 0) × (made_in r.1 ≡ 1)) }
-        ensures new { IfOk result (λ r. IsNew r.1) }
+        ensures count { IfOk result (λ r. passes_in (run_of r.0) ≡ passes) }
+        ensures passes { IfOk result (λ r. ArePasses (run_of r.0) r.1.items) }
+        ensures new { IfOk result (λ r. AreNew r.1.items) }
     {
-        let (run, pass) = Run::new(alloc, program, lang.funs().len(), objects)?;
-        Ok((Engine { run, lang }, pass))
+        let (run, first) = Run::new(alloc, program, lang.funs().len(), objects, passes)?;
+        let passes = run.passes_from(alloc, first)?;
+        Ok((Engine { run, lang }, passes))
     }
 
     /// The program for which it answers.
@@ -76,23 +81,6 @@ impl<'p, L: Language + Drop> Engine<'p, L> {
         ensures { result ≡ limit_in (run_of self.now) }
     {
         self.run.tag.limit
-    }
-
-    /// One more pass, which has seen, made and drawn nothing; its number is the count of the passes made before it.
-    /// Only the first pass makes others, and it is otherwise as before. The one error is want of memory.
-    pub fn split(&self, alloc: Global, pass: &mut Pass<'p>) -> Result<Pass<'p>, AllocError>
-        requires own { IsPassOf (run_of self.now) pass.old }
-        requires first { number_of pass.old ≡ 0 }
-        requires few { made_in pass.old < 8 }
-        ensures own { IsPassOf (run_of self.now) pass.new }
-        ensures untaken { IsUntaken pass.old pass.new }
-        ensures made { OnOk result (made_in pass.new ≡ made_in pass.old + 1) }
-        ensures refused { OnErr result (made_in pass.new ≡ made_in pass.old) }
-        ensures other { IfOk result (IsPassOf (run_of self.now)) }
-        ensures number { IfOk result (λ p. (number_of p ≡ made_in pass.old) × (made_in p ≡ 0)) }
-        ensures new { IfOk result IsNew }
-    {
-        self.run.split(alloc, pass)
     }
 
     /// Answers the operation of a site.
@@ -151,13 +139,13 @@ impl<'p, L: Language + Drop> Engine<'p, L> {
         pass: &mut Pass<'p>,
         operation: Operation<'_>,
     ) -> Result<Answer, AllocError>
-        requires own { IsPassOf (run_of self.now) pass.old }
+        requires own { IsPartOf (run_of self.now) pass.old }
         requires few { calls_of pass.old < 2 ^ 60 }
         requires binder { slice_get self.now.run.tag.binders.now operation.head.binder ≡ Some operation.binder.now }
         requires number { operation.head.pass ≡ number_of pass.old }
         requires object { operation.object < limit_in (run_of self.now) }
         requires proper { AreProper (run_of self.now) operation.operands.now }
-        ensures own { IsPassOf (run_of self.now) pass.new }
+        ensures own { IsPartOf (run_of self.now) pass.new }
         ensures taken { IsTaken pass.old pass.new }
         ensures made { IfOk result (
             HasMadeAnswer self.now.run.tag operation.entry (log_in pass.old) (log_in pass.new)) }
@@ -193,13 +181,13 @@ impl<'p, L: Language + Drop> Engine<'p, L> {
         binder: &Binder,
         operands: &[Value],
     ) -> Result<Answer, AllocError>
-        requires own { IsPassOf (run_of self.now) pass.old }
+        requires own { IsPartOf (run_of self.now) pass.old }
         requires few { calls_of pass.old < 2 ^ 60 }
         requires none { on_object binder.now operands.now ≡ None }
         requires short_names { has_short_names binder.now ≡ true }
         requires suit { Suit binder.now operands.now }
         requires proper { AreProper (run_of self.now) operands.now }
-        ensures own { IsPassOf (run_of self.now) pass.new }
+        ensures own { IsPartOf (run_of self.now) pass.new }
         ensures taken { IsTaken pass.old pass.new }
         ensures answered { IfOk result (IsPlainAnswer (plan_in (run_of self.now)) binder.now operands.now) }
         ensures log { log_in pass.new ≡ log_in pass.old }
@@ -240,55 +228,22 @@ impl<'p, L: Language + Drop> Engine<'p, L> {
         Ok(number)
     }
 
-    /// Keeps what the other pass knows, and the passes that it had joined, beside what the pass knows, which stays. It
-    /// takes no memory.
-    pub fn join(&self, pass: &mut Pass<'p>, other: Pass<'p>)
-        requires own { IsPassOf (run_of self.now) pass.old × IsPassOf (run_of self.now) other }
-        ensures own { IsPassOf (run_of self.now) pass.new }
-        ensures joined { IsJoined other.entry pass.old pass.new }
-    {
-        let Pass {
-            rows,
-            mind: _,
-            drawn: _,
-            levels: _,
-            calls: _,
-        } = other;
-        self.run.rows.join(&mut pass.rows, rows);
-    }
-
-    /// Joins all other passes, by their numbers, to the first: it then knows what it has to for
-    /// [`close`](Engine::close). It takes no memory.
-    pub fn join_all(&self, first: &mut Pass<'p>, mut others: Vec<Pass<'p>>)
-        requires own { IsPassOf (run_of self.now) first.old }
-        requires first { number_of first.old ≡ 0 }
-        requires made { made_in first.old ≡ length others.items + 1 }
-        requires others { AreOthers (run_of self.now) others.items }
-        ensures own { IsPassOf (run_of self.now) first.new }
-        ensures log { log_in first.new ≡ log_in first.old }
-        ensures all { HasAll (logs_in first.new) }
-        ensures each { AreKept others.entry.items (kept_in first.new) }
-    {
-        while let Some(other) = others.pop() {
-            self.join(first, other);
-        }
-    }
-
-    /// What the run came to. The pass has to keep what all others knew.
+    /// What the run came to, from all its passes.
     ///
     /// Each object has its one legal history: what each pass has seen of it is a beginning, the entries of each pass
     /// are those that it made, in order, and there are no others. Together the passes drew the numbers from the count
     /// of the shared objects up to some last one, each once. It takes no memory.
-    pub fn close(self, pass: Pass<'p>) -> Closed
-        requires own { IsPassOf (run_of self) pass }
-        requires all { HasAll (logs_in pass) }
+    pub fn close(self, passes: Vec<Pass<'p>>) -> Closed
+        requires passes { ArePasses (run_of self) passes.items }
         ensures count { length (journals_in result) ≡ limit_in (run_of self.entry) }
         ensures rows { (row : ℕ) → row < limit_in (run_of self.entry)
-            → IsClosedRow (plan_in (run_of self.entry)).binders (logs_in pass.entry) row (journals_in result) }
-        ensures draws { AllDrawn (shared_in (run_of self.entry)) (logs_in pass.entry) }
+            → IsClosedRow (plan_in (run_of self.entry)).binders passes.entry.items row (journals_in result) }
+        ensures drawn { drawn_in result ≡ map drawn_of passes.entry.items }
+        ensures numbers { AreDrawn (shared_in (run_of self.entry)) passes.entry.items }
+        ensures levels { levels_in result ≡ all_levels (map levels_of passes.entry.items) }
     {
         let Engine { run, lang: _ } = self;
-        run.close(pass)
+        run.close(passes)
     }
 }
 

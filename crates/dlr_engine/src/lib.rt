@@ -6,6 +6,7 @@ mod answer;
 mod binding;
 mod closed;
 mod engine;
+mod gathered;
 mod making;
 mod mind;
 mod operation;

@@ -1,11 +1,10 @@
 //! How an operation on an object is made in a turn.
 ghost use Rattle.std.specs.Prelude.{◌≡◌, ◌+◌, ◌<◌, ◌^◌, length, slice_get, Some, IfOk, OnErr, OnOk};
-ghost use Rattle.std.specs.List.{AllByRecursion};
-ghost use Rattle.dyn_value.specs.Proper.{IsProperIn};
 ghost use Rattle.standard_binders.specs.Functions.{HaveFewParameters};
 ghost use Rattle.object_history.specs.Rows.{idles_of, journal_of, table_of, tag_of};
 ghost use Rattle.dlr_engine.specs.Minds.{binds_in, table_in, MayHaveBound};
 ghost use Rattle.dlr_engine.specs.Makings.{Makes};
+ghost use Rattle.dlr_engine.specs.Tagged.{AreProperBy};
 
 use crate::binding::show_proper_content;
 use crate::mind::Mind;
@@ -33,7 +32,7 @@ pub(crate) fn bind_and_make<L: Language, R: Wait>(
     requires own { table_of row.old ≡ table.now }
     requires functions { (tag_of row.old).functions ≡ length (L.functions lang.now) }
     requires number { slice_get (tag_of row.old).binders.now operation.now.head.binder ≡ Some operation.now.binder.now }
-    requires proper { AllByRecursion (IsProperIn (tag_of row.old).functions (tag_of row.old).limit) operation.now.operands.now }
+    requires proper { AreProperBy (tag_of row.old) operation.now.operands.now }
     ensures made { IfOk result (Makes operation.now row.old row.new) }
     ensures refused { OnErr result (journal_of row.new ≡ journal_of row.old) }
     ensures idles { idles_of row.new ≡ idles_of row.old }

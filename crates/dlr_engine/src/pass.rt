@@ -1,5 +1,5 @@
 //! Passes.
-ghost use Rattle.std.specs.Prelude.{◌≡◌, ◌≤◌, map};
+ghost use Rattle.std.specs.Prelude.{◌≡◌, ◌≤◌, ◌^◌, map};
 ghost use Rattle.turn_rows.specs.Passes.{log_of};
 ghost use Rattle.dlr_engine.specs.Draws.{number_drawn};
 ghost use Rattle.dlr_engine.specs.Levels.{total};
@@ -34,6 +34,8 @@ pub struct Pass<'p> {
     pub(crate) calls: u64,
     ghost numbers: { map number_drawn drawn.items ≡ (log_of rows).draws },
     ghost counted: { ((log_of rows).calls ≤ calls) × (binds_in mind ≤ calls) × (total levels ≤ calls) },
+    // So the counts of all passes have a sum.
+    ghost few: { calls ≤ 2 ^ 60 },
 }
 
 impl<'p> Pass<'p> {

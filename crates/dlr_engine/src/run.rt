@@ -6,9 +6,10 @@ ghost use Rattle.object_history.specs.Histories.{mark_of, tag_with, turns_of, wh
 ghost use Rattle.script_program.specs.Programs.{binders_of, functions_of, script_of};
 
 use crate::closed::Closed;
+use crate::gathered::{Gathered, gather};
 use crate::mind::Mind;
 use crate::operation::{Made, Operation};
-use crate::pass::Pass;
+use crate::pass::{Drawn, Pass};
 use crate::turn::Turn;
 use dyn_value::Entry;
 use expando_class::ClassTable;
@@ -27,24 +28,29 @@ pub struct Run<'p> {
     pub(crate) tag: RowTag<'p>,
     pub(crate) table: ClassTable,
     pub(crate) rows: Rows<ObjectRow<'p>>,
-    // The room for the journals that come out at the end.
-    pub(crate) spare: Vec<Items<Entry>>,
+    // How many passes it has.
+    pub(crate) passes: u32,
+    // The room for what comes out at the end: the journals, and what each pass drew.
+    pub(crate) spare_journals: Vec<Items<Entry>>,
+    pub(crate) spare_drawn: Vec<Items<Drawn>>,
     pub ghost binders: { tag.binders.now ≡ binders_of program.now },
     pub ghost counted: { tag.functions ≡ length (functions_of program.now) },
     pub ghost tagged: { whole_tag_of (tag_state rows) ≡ tag_with tag table },
     pub ghost roomy: { tag.limit ≤ row_count rows },
-    pub ghost spared: { (spare.items ≡ []) × (tag.limit ≤ vec_capacity spare) },
+    pub ghost spared: { (spare_journals.items ≡ []) × (tag.limit ≤ vec_capacity spare_journals) },
+    pub ghost spared_drawn: { (spare_drawn.items ≡ []) × (passes ≤ vec_capacity spare_drawn) },
+    pub ghost few_passes: { passes ≤ 8 },
+    pub ghost some_passes: { 0 < passes },
     pub ghost shared: { shared_count rows ≡ length (script_of program.now).shared },
 }
 
 impl<'p> Run<'p> {
     ghost use Rattle.std.specs.Prelude.{◌≡◌, ◌+◌, ◌^◌, ◌<◌, length, slice_get, Some, IfOk, OnErr, OnOk};
-    ghost use Rattle.std.specs.List.{AllByRecursion};
-    ghost use Rattle.dyn_value.specs.Proper.{IsProperIn};
     ghost use Rattle.standard_binders.specs.Functions.{HaveFewParameters};
     ghost use Rattle.turn_rows.specs.Passes.{log_of, IsPassOf, IsSamePass};
     ghost use Rattle.dlr_engine.specs.Minds.{binds_in, table_in, MayHaveBound};
     ghost use Rattle.dlr_engine.specs.Operations.{HasMade, IsIdle};
+    ghost use Rattle.dlr_engine.specs.Tagged.{AreProperBy};
 
     /// Makes the operation in a turn on its object's row: binds it there, and enters it. Where memory is refused,
     /// nothing is entered.
@@ -66,7 +72,7 @@ impl<'p> Run<'p> {
         requires binder { slice_get self.now.tag.binders.now operation.head.binder ≡ Some operation.binder.now }
         requires number { operation.head.pass ≡ (log_of rows.old).number }
         requires object { operation.object < self.now.tag.limit }
-        requires proper { AllByRecursion (IsProperIn self.now.tag.functions self.now.tag.limit) operation.operands.now }
+        requires proper { AreProperBy self.now.tag operation.operands.now }
         ensures own { IsPassOf self.now.rows rows.new }
         ensures same { IsSamePass rows.old rows.new }
         ensures calls { (log_of rows.new).calls ≡ (log_of rows.old).calls + 1 }
@@ -109,36 +115,40 @@ impl<'p> Run<'p> {
 
 impl<'p> Run<'p> {
     ghost use Rattle.std.specs.Prelude.{◌≡◌, ◌<◌, ℕ, length};
-    ghost use Rattle.dlr_engine.specs.Closing.{journals_in, IsClosedRow};
-    ghost use Rattle.dlr_engine.specs.Passes as passes;
-    ghost use Rattle.turn_rows.specs.Passes.{AllDrawn, HasAll};
+    ghost use Rattle.std.specs.Prelude.{map};
+    ghost use Rattle.dlr_engine.specs.Closing.{drawn_in, journals_in, levels_in, AreDrawn, IsClosedRow};
+    ghost use Rattle.dlr_engine.specs.Levels.{all_levels};
+    ghost use Rattle.dlr_engine.specs.Passes.{drawn_of, levels_of, limit_in, shared_in, ArePasses};
 
-    /// The journals of all objects.
-    pub(crate) fn close(self, pass: Pass<'p>) -> Closed
-        requires own { passes.IsPassOf self pass }
-        requires all { HasAll (passes.logs_in pass) }
-        ensures count { length (journals_in result) ≡ passes.limit_in self.entry }
-        ensures rows { (row : ℕ) → row < passes.limit_in self.entry
-            → IsClosedRow self.entry.tag.binders.now (passes.logs_in pass.entry) row (journals_in result) }
-        ensures draws { AllDrawn (passes.shared_in self.entry) (passes.logs_in pass.entry) }
+    /// The journals of all objects, and what the passes drew and counted.
+    pub(crate) fn close(self, passes: Vec<Pass<'p>>) -> Closed
+        requires passes { ArePasses self passes.items }
+        ensures count { length (journals_in result) ≡ limit_in self.entry }
+        ensures rows { (row : ℕ) → row < limit_in self.entry
+            → IsClosedRow self.entry.tag.binders.now passes.entry.items row (journals_in result) }
+        ensures drawn { drawn_in result ≡ map drawn_of passes.entry.items }
+        ensures numbers { AreDrawn (shared_in self.entry) passes.entry.items }
+        ensures levels { levels_in result ≡ all_levels (map levels_of passes.entry.items) }
     {
         let Run {
             program: _,
             tag,
             table: _,
             rows,
-            spare,
+            passes: _,
+            spare_journals,
+            spare_drawn,
         } = self;
-        let Pass {
+        let Gathered {
             rows: all,
-            mind: _,
-            drawn: _,
-            levels: _,
-            calls: _,
-        } = pass;
+            drawn,
+            levels,
+        } = gather(&rows, passes, spare_drawn);
         let states = rows.close(all);
         Closed {
-            journals: Items::from_vec(journals_of(states, spare, tag.limit as usize)),
+            journals: Items::from_vec(journals_of(states, spare_journals, tag.limit as usize)),
+            drawn: Items::from_vec(drawn),
+            levels,
         }
     }
 }
@@ -164,21 +174,25 @@ fn journals_of(
 
 impl<'p> Run<'p> {
     ghost use Rattle.std.specs.Prelude.{◌≡◌, ◌+◌, ◌<◌, ◌≤◌, length, IfOk, OnErr, OnOk};
-    ghost use Rattle.dlr_engine.specs.Passes.{limit_in, made_in, number_of, program_in, shared_in, IsNew, IsPassOf, IsUntaken};
+    ghost use Rattle.dlr_engine.specs.Passes.{limit_in, made_in, number_of, passes_in, program_in, shared_in, AreNew, ArePasses, IsNew, IsPartOf, IsUntaken};
 
-    /// A run of the program, with so many objects beside the shared ones, on which nothing was done, and its first
-    /// pass.
+    /// A run of the program, with so many objects beside the shared ones, on which nothing was done, that is to have so
+    /// many passes, and the first of them.
     pub(crate) fn new(
         alloc: Global,
         program: &'p Program,
         functions: usize,
         objects: u32,
+        passes: u32,
     ) -> Result<(Run<'p>, Pass<'p>), AllocError>
         requires objects { objects ≤ 4032 }
+        requires some { 0 < passes }
+        requires few_passes { passes ≤ 8 }
         requires functions { functions ≡ length (functions_of program.now) }
         ensures program { IfOk result (λ r. program_in r.0 ≡ program.now) }
         ensures limit { IfOk result (λ r. limit_in r.0 ≡ shared_in r.0 + objects) }
-        ensures own { IfOk result (λ r. IsPassOf r.0 r.1) }
+        ensures passes { IfOk result (λ r. passes_in r.0 ≡ passes) }
+        ensures own { IfOk result (λ r. IsPartOf r.0 r.1) }
         ensures first { IfOk result (λ r. (number_of r.1 ≡ 0) × (made_in r.1 ≡ 1)) }
         ensures new { IfOk result (λ r. IsNew r.1) }
     {
@@ -190,7 +204,8 @@ impl<'p> Run<'p> {
         };
         let table = ClassTable::new(alloc)?;
         let mind = Mind::new(alloc, &table)?;
-        let spare = Vec::with_capacity(alloc, tag.limit as usize)?;
+        let spare_journals = Vec::with_capacity(alloc, tag.limit as usize)?;
+        let spare_drawn = Vec::with_capacity(alloc, passes as usize)?;
         let states = new_rows(alloc, tag, &table, row_count_for(tag.limit))?;
         let (rows, first) = Rows::new(alloc, states, shared)?;
         let run = Run {
@@ -198,21 +213,44 @@ impl<'p> Run<'p> {
             tag,
             table,
             rows,
-            spare,
+            passes,
+            spare_journals,
+            spare_drawn,
         };
         Ok((run, Pass::new(alloc, first, mind)))
     }
 
-    /// One more pass.
-    pub(crate) fn split(&self, alloc: Global, pass: &mut Pass<'p>) -> Result<Pass<'p>, AllocError>
-        requires own { IsPassOf self.now pass.old }
+    /// All its passes, which have done nothing. The one error is want of memory.
+    pub(crate) fn passes_from(
+        &self,
+        alloc: Global,
+        mut first: Pass<'p>,
+    ) -> Result<Vec<Pass<'p>>, AllocError>
+        requires own { IsPartOf self.now first }
+        requires first { (number_of first ≡ 0) × (made_in first ≡ 1) }
+        requires new { IsNew first }
+        ensures passes { IfOk result (λ ps. ArePasses self.now ps.items) }
+        ensures new { IfOk result (λ ps. AreNew ps.items) }
+    {
+        let mut passes = Vec::with_capacity(alloc, self.passes as usize)?;
+        for _number in 1..self.passes {
+            passes.push_reserved(self.split(alloc, &mut first)?);
+        }
+        passes.insert(0, first)?;
+        Ok(passes)
+    }
+
+    /// One more pass, which has seen, made and drawn nothing; its number is the count of the passes made before it.
+    /// Only the first pass makes others, and it is otherwise as before. The one error is want of memory.
+    fn split(&self, alloc: Global, pass: &mut Pass<'p>) -> Result<Pass<'p>, AllocError>
+        requires own { IsPartOf self.now pass.old }
         requires first { number_of pass.old ≡ 0 }
         requires few { made_in pass.old < 8 }
-        ensures own { IsPassOf self.now pass.new }
+        ensures own { IsPartOf self.now pass.new }
         ensures untaken { IsUntaken pass.old pass.new }
         ensures made { OnOk result (made_in pass.new ≡ made_in pass.old + 1) }
         ensures refused { OnErr result (made_in pass.new ≡ made_in pass.old) }
-        ensures other { IfOk result (IsPassOf self.now) }
+        ensures other { IfOk result (IsPartOf self.now) }
         ensures number { IfOk result (λ p. (number_of p ≡ made_in pass.old) × (made_in p ≡ 0)) }
         ensures new { IfOk result IsNew }
     {

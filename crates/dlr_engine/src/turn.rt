@@ -1,10 +1,9 @@
 //! The turn of an operation on an object.
 ghost use Rattle.std.specs.Prelude.{◌≡◌, ◌<◌, ◌^◌, length, slice_get, None, Some};
-ghost use Rattle.std.specs.List.{AllByRecursion};
-ghost use Rattle.dyn_value.specs.Proper.{IsProperIn};
 ghost use Rattle.standard_binders.specs.Functions.{HaveFewParameters};
-ghost use Rattle.dlr_engine.specs.BindingProps.{few_prop, proper_prop};
+ghost use Rattle.dlr_engine.specs.BindingProps.{few_prop};
 ghost use Rattle.dlr_engine.specs.Minds.{binds_in, table_in};
+ghost use Rattle.dlr_engine.specs.Tagged.{AreProperBy, proper_by_prop};
 
 use crate::making::bind_and_make;
 use crate::mind::Mind;
@@ -31,7 +30,7 @@ pub(crate) struct Turn<'e, 'p, L: Language, R: Wait> {
     ghost functions: { tag.functions ≡ length (L.functions lang.now) },
     ghost few: { HaveFewParameters (L.functions lang.now) } by { few_prop (L.functions lang.now) },
     ghost number: { slice_get tag.binders.now operation.head.binder ≡ Some operation.binder.now },
-    ghost proper: { AllByRecursion (IsProperIn tag.functions tag.limit) operation.operands.now } by { proper_prop tag.functions tag.limit operation.operands.now },
+    ghost proper: { AreProperBy tag operation.operands.now } by { proper_by_prop tag operation.operands.now },
     ghost known: { table_in mind.now ≡ table.now },
     ghost few_binds: { made.now ≡ None → binds_in mind.now < 2 ^ 60 },
 }

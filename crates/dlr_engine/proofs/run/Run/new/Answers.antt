@@ -15,5 +15,8 @@ invariant_of-run c =
       tagged = tag_is tag c.in_ok-table.table (tag_state c.in_ok-rows.rows) states some c.in_ok-states.ensures.tag c.in_ok-rows.ensures.tag;
       roomy = omega (arith, c.row_count_for.ensures.all, c.in_ok-states.ensures.count, c.in_ok-rows.ensures.rows);
       spared = search rules;
+      spared_drawn = search rules;
+      few_passes = c.requires.few_passes;
+      some_passes = c.requires.some;
       shared = c.in_ok-rows.ensures.shared ∙ ap length c.shared.ensures.shared;
     }
