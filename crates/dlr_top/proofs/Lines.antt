@@ -10,7 +10,7 @@ use Rattle.std.proofs.lemmas.Str.{encodes-append}
 use Rattle.object_model.specs.Members.{Member}
 use Rattle.task_run.specs.Stores.{Begins}
 use Rattle.script_grammar.specs.declared.tree.Task.{Task}
-use Rattle.dlr_top.specs.declared.report.TaskEnd.{TaskEnd}
+use Rattle.engine_tasks.specs.declared.report.TaskEnd.{TaskEnd}
 use Rattle.dlr_top.specs.Rendering.{task_text, tasks_text, member_text, members_text}
 
 -- one piece after another

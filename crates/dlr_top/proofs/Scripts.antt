@@ -1,5 +1,5 @@
 -- What the bytes that were read say of all that the source held.
-use Rattle.std.proofs.Common.{◌≡◌, ℕ, ◌<◌, ◌≤◌, List, length, take, length-take, Option, None, Some, IfSome, sym, ◌∙◌, ap, subst, arith}
+use Rattle.std.proofs.Common.{◌≡◌, ℕ, ◌≤◌, List, length, take, length-take, Option, None, Some, IfSome, sym, ◌∙◌, ap, subst, arith}
 use Rattle.std.proofs.lemmas.List.{take_all}
 use Rattle.script_grammar.specs.declared.tree.Script.{Script}
 use Rattle.script_program.specs.declared.reading.ScriptRefused.{ScriptRefused}

@@ -1,5 +1,5 @@
 -- The line of a refusal, in characters.
-use Rattle.std.specs.Prelude.{◌≡◌, ℕ, List, ◌++◌, Option, IfSome, codes, encode_utf8_all}
+use Rattle.std.specs.Prelude.{ℕ, List, ◌++◌, Option, IfSome, codes, encode_utf8_all}
 use Rattle.std.specs.Fmt.{decimal}
 use Rattle.script_program.specs.declared.reading.ScriptRefused.{ScriptRefused}
 use Rattle.script_program.specs.declared.reading.ScriptRefused.TheVariants.{TooLong, NotText, BadToken, TooDeep, Syntax, BadName, TooMany}

@@ -17,10 +17,11 @@ use Rattle.task_walk.specs.declared.ended.Ended.TheVariants.{Done, Faulted}
 use Rattle.script_program.specs.declared.program.Program.{Program}
 use Rattle.script_grammar.specs.declared.tree.Task.{Task}
 use Rattle.script_program.specs.Programs.{script_of, binders_of}
-use Rattle.dlr_top.specs.declared.report.TaskEnd.{TaskEnd}
-use Rattle.dlr_top.specs.declared.report.Report.{Report}
+use Rattle.dlr_engine.specs.Closing.{journals_in}
+use Rattle.engine_tasks.specs.declared.report.TaskEnd.{TaskEnd}
+use Rattle.engine_tasks.specs.declared.report.Report.{Report}
+use Rattle.engine_tasks.specs.Lawful.{all_drawn, journal_at}
 use Rattle.command_words.specs.declared.words.Options.{Options}
-use Rattle.dlr_top.specs.Lawful.{all_drawn, journal_at}
 
 -- the text stands behind what was there, in UTF-8
 abbrev pub AddsText : Vec ℕ → Vec ℕ → List ℕ → Type 0
@@ -83,12 +84,12 @@ members_text (m ∷ n ∷ ms) = member_text m ++ codes "," ++ members_text (n �
 -- an object's journal, and the members after it
 abbrev pub object_text : Program → Report → ℕ → List ℕ
 object_text program report object =
-    codes "object " ++ decimal object ++ codes "\n" ++ flat_map (entry_text program) (journal_at report.journals object)
-    ++ codes "  members" ++ members_text (members_after (binders_of program) [] (journal_at report.journals object)) ++ codes "\n"
+    codes "object " ++ decimal object ++ codes "\n" ++ flat_map (entry_text program) (journal_at report object)
+    ++ codes "  members" ++ members_text (members_after (binders_of program) [] (journal_at report object)) ++ codes "\n"
 
 -- how many objects were shared or made; the report has a journal for each that there may be
 abbrev pub object_count : Program → Report → ℕ
-object_count program report = min (length report.journals) (length (script_of program).shared + length (all_drawn report))
+object_count program report = min (length (journals_in report.closed)) (length (script_of program).shared + length (all_drawn report))
 
 -- the journals of the objects that were shared or made, in the order of their numbers
 abbrev pub journals_text : Program → Report → List ℕ

@@ -11,14 +11,13 @@ ghost use Rattle.dlr_top.specs.Rendering.{usage_text};
 
 use crate::announcing::{announce, announce_refusal};
 use crate::checking::check_only;
-use crate::gate::Gate;
+use crate::execution::execute;
 use crate::loading::{Unloaded, load};
-use crate::report::Report;
-use crate::run::execute;
 use crate::status;
 use byte_devices::{Sink, Source};
-use command_words::{Command, Options, read_words};
+use command_words::{Command, Options, WordsRefused, read_words};
 use dyn_value::DynText;
+use engine_tasks::{Gate, Report};
 use std::alloc::Global;
 use std::sync::Wait;
 use std::thread::Threads;
@@ -59,7 +58,7 @@ impl TopOutcome {
 }
 
 /// The command: its words, a source that the script is read from, and a sink that the text is written to.
-pub fn top<R: Threads + Wait + Sync, S: Source, K: Sink, G: Gate>(
+pub fn top<R: Threads + Wait + Sync, S: Source, K: Sink, G: Gate + Sync>(
     rt: &R,
     alloc: Global,
     words: &[DynText],
@@ -112,21 +111,24 @@ pub fn top<R: Threads + Wait + Sync, S: Source, K: Sink, G: Gate>(
         (Rose (K.faults sink.old) (K.faults sink.new) → ⊥) → IfSome (S.held source.old) (λ bytes. (script : Script) →
         IsScript bytes script → (result.status ≡ 0) ⊎ (result.status ≡ 1) ⊎ (result.status ≡ 3)) }
 {
-    let _gate = gate;
-    match read_words(words) {
-        None => TopOutcome::without_report(announce(sink, USAGE.as_bytes(), status::WORDS_REFUSED)),
-        Some(Command::Check) => TopOutcome::without_report(check_only(alloc, source, sink)),
-        Some(Command::Run(options)) => run_script(rt, alloc, &options, source, sink),
+    match read_words(alloc, words) {
+        Ok(Command::Check) => TopOutcome::without_report(check_only(alloc, source, sink)),
+        Ok(Command::Run(options)) => run_script(rt, alloc, &options, source, sink, gate),
+        Err(WordsRefused::Bad) => {
+            TopOutcome::without_report(announce(sink, USAGE.as_bytes(), status::WORDS_REFUSED))
+        }
+        Err(WordsRefused::Memory) => TopOutcome::without_report(status::MEMORY),
     }
 }
 
 /// Runs the script that the source holds.
-fn run_script<R: Wait, S: Source, K: Sink>(
+fn run_script<R: Threads + Wait + Sync, S: Source, K: Sink, G: Gate + Sync>(
     rt: &R,
     alloc: Global,
     options: &Options,
     source: &mut S,
     sink: &mut K,
+    gate: &G,
 ) -> TopOutcome
     requires objects { options.now.objects ≤ 4032 }
     ensures status { (result.status ≡ 0) ⊎ (result.status ≡ 1) ⊎ (result.status ≡ 3) ⊎ (result.status ≡ 4) ⊎
@@ -152,7 +154,7 @@ fn run_script<R: Wait, S: Source, K: Sink>(
         IsScript bytes script → (result.status ≡ 0) ⊎ (result.status ≡ 1) ⊎ (result.status ≡ 3)) }
 {
     match load(alloc, source) {
-        Ok(program) => execute(rt, alloc, &program, options, sink),
+        Ok(program) => execute(rt, alloc, &program, options, sink, gate),
         Err(Unloaded::SourceFailed) => TopOutcome::without_report(status::SOURCE_FAILED),
         Err(Unloaded::Refused(cause)) => {
             TopOutcome::without_report(announce_refusal(alloc, sink, cause))

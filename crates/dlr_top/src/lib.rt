@@ -4,10 +4,9 @@
 mod announcing;
 mod checking;
 mod command;
-mod gate;
+mod execution;
 mod loading;
 mod report;
-mod run;
 mod status;
 #[cfg(test)]
 mod tests;
@@ -17,9 +16,9 @@ pub use byte_devices::{
 };
 pub use checking::check_only;
 pub use command::{TopOutcome, top};
-pub use command_words::{Command, Options, read_words};
-pub use gate::{Gate, OpenGate};
-pub use report::{Report, TaskEnd, render};
+pub use command_words::{Command, Options, WordsRefused, read_words};
+pub use engine_tasks::{Gate, OpenGate, Report, TaskEnd};
+pub use report::render;
 pub use status::{
     ALL_DONE, MEMORY, REFUSED, SINK_FAILED, SOURCE_FAILED, TASK_FAULTED, WORDS_REFUSED,
 };

@@ -204,10 +204,8 @@ object 2
 #[test]
 fn journals_are_written_where_they_are_asked_for(rt: HostRuntime) -> Result<(), Fail> {
     let alloc = rt.alloc();
-    let cases: [(&[&str], &str); 5] = [
-        (&["run"], ""),
+    let cases: [(&[&str], &str); 3] = [
         (&["run", "--serial"], ""),
-        (&["run", "--journal"], JOURNALS),
         (&["run", "--journal", "--serial"], JOURNALS),
         (&["run", "--serial", "--journal"], JOURNALS),
     ];

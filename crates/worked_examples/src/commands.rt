@@ -23,11 +23,7 @@ pub(crate) fn run<R: Threads + Wait + Sync>(
     words: &str,
     script: &[u8],
 ) -> Result<Ran, Fail> {
-    let mut texts = Vec::new(alloc);
-    for word in words.split_ascii_whitespace() {
-        let text = DynText::from_str(alloc, word)?;
-        texts.push(text.ok_or("a long word")?)?;
-    }
+    let texts = texts_of(alloc, words)?;
     let mut source = CleanSource::new(Vec::from_slice(alloc, script)?);
     let mut sink = CleanSink::new(alloc);
     let outcome = top(
@@ -42,4 +38,14 @@ pub(crate) fn run<R: Threads + Wait + Sync>(
         written: Vec::from_slice(alloc, sink.bytes())?,
         status: outcome.status,
     })
+}
+
+/// The words of a line, which are parted by blanks.
+pub(crate) fn texts_of(alloc: Global, line: &str) -> Result<Vec<DynText>, Fail> {
+    let mut texts = Vec::new(alloc);
+    for word in line.split_ascii_whitespace() {
+        let text = DynText::from_str(alloc, word)?;
+        texts.push(text.ok_or("a long word")?)?;
+    }
+    Ok(texts)
 }

@@ -8,6 +8,8 @@ mod commands;
 #[cfg(test)]
 mod failing_tests;
 #[cfg(test)]
+mod gate_tests;
+#[cfg(test)]
 mod journals;
 #[cfg(test)]
 mod language_tests;

@@ -2,13 +2,13 @@ ghost use Rattle.std.specs.Prelude.{◌≡◌, ◌<◌, ◌^◌, [], IsSome, IfO
 ghost use Rattle.std.specs.List.{flat_map};
 ghost use Rattle.object_model.specs.Journals.{IsLegal, entry_step, left_by, members_after};
 ghost use Rattle.task_run.specs.Stores.{Begins};
-ghost use Rattle.dlr_top.specs.Lawful.{AreLegal, journal_at};
+ghost use Rattle.engine_tasks.specs.Lawful.{AreLegal, journal_at};
 ghost use Rattle.dlr_top.specs.Rendering.{AddsText, entry_text, journals_text, member_text, members_text, object_count, object_text};
 
-use crate::report::Report;
 use crate::report::entries::render_entry;
 use crate::report::texts::{put_ascii, put_number};
 use dyn_value::Entry;
+use engine_tasks::Report;
 use object_model::{Member, ObjectMembers};
 use script_program::Program;
 use standard_binders::Binder;
@@ -36,7 +36,7 @@ fn object_count_of(program: &Program, report: &Report) -> usize
     ensures count { result ≡ object_count program.now report.now }
     ensures few { result < 2 ^ 63 }
 {
-    let limit = report.journals.as_slice().len();
+    let limit = report.closed.journals().len();
     let mut count = program.shared().len().min(limit);
     for end in report.tasks.as_slice() {
         count = count.saturating_add(end.drawn.len()).min(limit);
@@ -69,9 +69,9 @@ fn render_object(
 
 /// The journal of the object of this number.
 fn journal_of(report: &Report, object: usize) -> &[Entry]
-    ensures { result.now ≡ journal_at report.now.journals object }
+    ensures { result.now ≡ journal_at report.now object }
 {
-    match report.journals.as_slice().get(object) {
+    match report.closed.journals().get(object) {
         Some(journal) => journal.as_slice(),
         None => &[],
     }

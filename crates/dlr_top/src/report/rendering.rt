@@ -1,14 +1,14 @@
 ghost use Rattle.std.specs.Prelude.{◌≡◌, length, OnOk, OnErr};
 ghost use Rattle.task_run.specs.Stores.{Begins};
+ghost use Rattle.engine_tasks.specs.Lawful.{AreLegal, IsLawful};
 ghost use Rattle.script_program.specs.Programs.{script_of};
-ghost use Rattle.dlr_top.specs.Lawful.{AreLegal, IsLawful};
 ghost use Rattle.dlr_top.specs.Rendering.{AddsText, line_text, ended_text, task_text, lines_text, journals_if, report_text};
 
 use crate::report::journals::render_journals;
 use crate::report::texts::{put_ascii, put_text};
-use crate::report::{Report, TaskEnd};
 use command_words::Options;
 use dyn_value::DynText;
+use engine_tasks::{Report, TaskEnd};
 use script_grammar::Task;
 use script_program::Program;
 use std::alloc::AllocError;

@@ -1,6 +1,5 @@
 use Rattle.std.proofs.Common.{◌≡◌, ◌++◌, ◌∙◌, ap, subst}
 use Rattle.std.specs.Prelude.{codes, encode_utf8_all, OnOk}
-use Rattle.dyn_value.specs.declared.value.Value.{Value}
 use Rattle.dyn_value.specs.Texts.{quoted, quoted_text}
 use Rattle.object_model.specs.Members.{Member}
 use Rattle.dlr_top.proofs.Lines.{both, both_ok}

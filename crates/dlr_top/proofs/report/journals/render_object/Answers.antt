@@ -4,7 +4,7 @@ use Rattle.std.specs.Fmt.{decimal}
 use Rattle.std.specs.List.{flat_map}
 use Rattle.object_model.specs.Journals.{IsLegal, members_after}
 use Rattle.script_program.specs.Programs.{binders_of}
-use Rattle.dlr_top.specs.Lawful.{journal_at}
+use Rattle.engine_tasks.specs.Lawful.{journal_at}
 use Rattle.dlr_top.specs.Rendering.{entry_text, members_text}
 use Rattle.dlr_top.proofs.Lines.{both, both_ok, refused_after}
 use Rattle.dlr_top.proofs.report.journals.render_object.Goals as goal
@@ -17,7 +17,7 @@ replayed-requires c =
 pub returns-clause-appended : goal.returns-clause-appended
 returns-clause-appended c =
     let program = c.args.program.now in
-    let journal = journal_at c.args.report.now.journals c.args.object in
+    let journal = journal_at c.args.report.now c.args.object in
     let ms = members_after (binders_of program) [] journal in
     let entries = flat_map (entry_text program) journal in
     let number = codes "object " ++ decimal c.args.object in
