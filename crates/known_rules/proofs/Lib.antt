@@ -1,0 +1,6 @@
+pub mod Fit
+pub mod Keeping
+pub mod Listing
+pub mod OwnClasses
+pub mod Plainly
+pub mod WritesBound
