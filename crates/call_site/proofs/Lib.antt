@@ -1,0 +1,3 @@
+pub mod Keeps
+pub mod Words
+pub mod Tries
