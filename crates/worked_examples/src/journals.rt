@@ -35,7 +35,7 @@ pub(crate) const JOURNALS: [Example; 5] = [
         status: 0,
     },
     Example {
-        words: "run --journal",
+        words: "run --serial --journal",
         script: "shared stock;\ntask fill { stock.tea = 3; }\ntask sell { stock.tea = (stock.tea - 1); print stock.cup; }\n",
         text: "sell! NoMember \"cup\"\nobject 0\n  fill SetMember \"tea\" 3 -> nil\n  sell GetMember \"tea\" -> 3\n  sell SetMember \"tea\" 2 -> nil\n  sell GetMember \"cup\" -> ! NoMember \"cup\"\n  members \"tea\" 2\n",
         status: 1,
