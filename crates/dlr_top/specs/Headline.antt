@@ -28,10 +28,11 @@ IsFaulted (Faulted f) = Unit {0}
 abbrev pub SomeFaulted : Report → Type 0
 SomeFaulted report = (task : ℕ) × ((end : TaskEnd) × ((slice_get report.tasks task ≡ Some end) × IsFaulted end.ended))
 
--- The report is lawful for the script that the source held, and serial where the words ask for that; its text by the words' options was written:
--- whole where the status is not 5, and else a front of it that is shorter. Status 1 says that a task ended by a
--- fault, and status 0 that none did.
-pub record Reports (status : ℕ) (words : List (List ℕ)) (held before after : Option (List ℕ)) (report : Report) : Type 0 where
+-- The report is lawful for the script that the source held, and serial where the words ask for that; its text by the
+-- words' options was written: whole where the status is not 5, and else a front of it that is shorter. Status 1 says
+-- that a task ended by a fault, and status 0 that none did.
+pub record Reports (status : ℕ) (words : List (List ℕ)) (held before after : Option (List ℕ)) (report : Report)
+    : Type 0 where
   pub program : Program
   pub read : IfSome held (λ bytes. IsScript bytes (script_of program))
   pub options : Options
@@ -46,8 +47,8 @@ pub record Reports (status : ℕ) (words : List (List ℕ)) (held before after :
 abbrev pub ok_text : List ℕ
 ok_text = codes "ok\n"
 
--- The bytes that the source held are a script, and that was written: whole where the status is 0, and a front of it that
--- is shorter where it is 5.
+-- The bytes that the source held are a script, and that was written: whole where the status is 0, and a front of it
+-- that is shorter where it is 5.
 pub record Checked (status : ℕ) (held before after : Option (List ℕ)) : Type 0 where
   pub found : IfSome held (λ bytes. (script : Script) × IsScript bytes script)
   pub written : status ≡ 0 → Adds before after ok_text

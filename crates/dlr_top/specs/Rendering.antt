@@ -28,7 +28,8 @@ abbrev pub AddsText : Vec ℕ → Vec ℕ → List ℕ → Type 0
 AddsText old new text = new.items ≡ old.items ++ encode_utf8_all text
 
 abbrev pub usage_text : List ℕ
-usage_text = codes "usage: dlr run [--serial] [--journal] [--stats] [--rules] [--turns N] [--objects N] | check | drill SEED\n"
+usage_text =
+    codes "usage: dlr run [--serial] [--journal] [--stats] [--rules] [--turns N] [--objects N] | check | drill SEED\n"
 
 -- a printed line of a task
 abbrev pub line_text : List ℕ → List ℕ → List ℕ
@@ -69,7 +70,8 @@ outcome_text _ = []
 -- the line of an entry: its task, its binder, its operands and its outcome
 abbrev pub entry_text : Program → Entry → List ℕ
 entry_text program e =
-    codes "  " ++ name_of (slice_get (script_of program).tasks e.task) ++ codes " " ++ text_of (slice_get (binders_of program) e.binder)
+    codes "  " ++ name_of (slice_get (script_of program).tasks e.task)
+    ++ codes " " ++ text_of (slice_get (binders_of program) e.binder)
     ++ flat_map operand_text e.operands ++ codes " -> " ++ outcome_text e.outcome ++ codes "\n"
 
 abbrev pub member_text : Member → List ℕ
@@ -85,11 +87,13 @@ members_text (m ∷ n ∷ ms) = member_text m ++ codes "," ++ members_text (n �
 abbrev pub object_text : Program → Report → ℕ → List ℕ
 object_text program report object =
     codes "object " ++ decimal object ++ codes "\n" ++ flat_map (entry_text program) (journal_at report object)
-    ++ codes "  members" ++ members_text (members_after (binders_of program) [] (journal_at report object)) ++ codes "\n"
+    ++ codes "  members" ++ members_text (members_after (binders_of program) [] (journal_at report object))
+    ++ codes "\n"
 
 -- how many objects were shared or made; the report has a journal for each that there may be
 abbrev pub object_count : Program → Report → ℕ
-object_count program report = min (length (journals_in report.closed)) (length (script_of program).shared + length (all_drawn report))
+object_count program report =
+    min (length (journals_in report.closed)) (length (script_of program).shared + length (all_drawn report))
 
 -- the journals of the objects that were shared or made, in the order of their numbers
 abbrev pub journals_text : Program → Report → List ℕ

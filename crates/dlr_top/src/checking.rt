@@ -17,8 +17,8 @@ const ACCEPTED: &str = "ok\n";
 /// Reads the script that the source holds, and runs nothing: writes `ok`, or the refusal line.
 ///
 /// The answer is `ALL_DONE` where the source held a script and `ok` was written, `REFUSED` where it held none, `MEMORY`
-/// where memory was refused and nothing was written, `SOURCE_FAILED` where the source failed and nothing was written, and
-/// `SINK_FAILED` where it held a script and the sink failed.
+/// where memory was refused and nothing was written, `SOURCE_FAILED` where the source failed and nothing was written,
+/// and `SINK_FAILED` where it held a script and the sink failed.
 pub fn check_only<S: Source, K: Sink>(alloc: Global, source: &mut S, sink: &mut K) -> u8
     ensures status { (result ≡ 0) ⊎ (result ≡ 3) ⊎ (result ≡ 4) ⊎ (result ≡ 5) ⊎ (result ≡ 6) }
     ensures checked { (result ≡ 0) ⊎ (result ≡ 5) →

@@ -13,7 +13,5 @@ mod snapshots;
 mod tests;
 
 pub use bound::BoundRule;
-pub use guard::agree;
 pub use known::{Fitting, KnownRules};
-pub use plain::plain_outcome;
 pub use publishing::PublishAnswer;

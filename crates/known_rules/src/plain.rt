@@ -14,7 +14,11 @@ use tree_eval::eval_plain;
 
 /// The outcome of an operation on these operands that looks at no object, by a rule of its binder that passes on them
 /// and claims nothing of functions that does not hold. The one error is want of memory.
-pub fn plain_outcome(alloc: Global, rule: &Rule, operands: &[Value]) -> Result<Outcome, AllocError>
+pub(crate) fn plain_outcome(
+    alloc: Global,
+    rule: &Rule,
+    operands: &[Value],
+) -> Result<Outcome, AllocError>
     requires claim { (functions : Functions) × FunHolds (claim_of rule.now) functions }
     requires none { looks_at_none (binder_of rule.now) operands.now ≡ true }
     requires suit { Suit (binder_of rule.now) operands.now }
