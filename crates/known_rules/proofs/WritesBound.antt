@@ -23,10 +23,10 @@ use Rattle.known_rules.specs.Bounds.{IsClaimedFor, IsClaimedOf}
 use Rattle.known_rules.specs.Guarding.{IsAdoptedIn}
 use Rattle.known_rules.specs.Writes.{write}
 
-abbrev Is : Option ClassRef → ℕ → Value → MetaObject → Type 0
+abbrev pub Is : Option ClassRef → ℕ → Value → MetaObject → Type 0
 Is class i v m = IsMetaOf i v (lent_at i class) m
 
-one_of : (class : Option ClassRef) (i : ℕ) (v w : Value) (m n : MetaObject) → Some m ≡ Some n → Some v ≡ Some w → Is class i v m → Is class i w n
+pub one_of : (class : Option ClassRef) (i : ℕ) (v w : Value) (m n : MetaObject) → Some m ≡ Some n → Some v ≡ Some w → Is class i v m → Is class i w n
 one_of class i v w m n at_m at_w is =
     let one : m ≡ n = cc in let other : v ≡ w = cc in subst (λ (k : MetaObject). Is class i w k) one (subst (λ (x : Value). Is class i x m) other is)
 
@@ -50,7 +50,7 @@ text_callable (value.Int n) is = cc
 text_callable (value.Fun f) is = cc
 text_callable (value.Obj o) is = cc
 
-callable_as : (v w : Value) → Some v ≡ Some w → IsTrue (is_callable [] (known_value v)) → IsTrue (is_callable [] (known_value w))
+pub callable_as : (v w : Value) → Some v ≡ Some w → IsTrue (is_callable [] (known_value v)) → IsTrue (is_callable [] (known_value w))
 callable_as v w at is = let same : v ≡ w = cc in subst (λ (x : Value). IsTrue (is_callable [] (known_value x))) same is
 
 -- none of the operands is a function

@@ -1,6 +1,8 @@
 -- The rules that a pass knows of one binder, and what each call does to them.
 use Rattle.std.specs.Prelude.{◌≡◌, ℕ, ◌+◌, List, ◌++◌, All, Contains, Option, None, Some}
 use Rattle.dyn_value.specs.declared.value.Value.{Value}
+use Rattle.call_site.specs.declared.choice.Choice.{Choice}
+use Rattle.call_site.specs.declared.choice.Level.{Level}
 use Rattle.binder_cache.specs.Known.{AddsFirst, KnownRule, Knows}
 use Rattle.binder_cache.specs.Pass.{known_of, published_of}
 use Rattle.rule.specs.declared.claimed.Adopted.{Adopted}
@@ -33,6 +35,14 @@ HasPassing rules operands class index =
 abbrev pub IsChosen : List (KnownRule Rule Adopted) → List Value → ℕ → Option ℕ → Type 0
 IsChosen rules operands class (Some index) = Knows rules index × HasPassing rules operands class index
 IsChosen rules operands class None = All (λ k. ¬ Passes operands class k.rule) rules
+
+-- the index of the rule that was chosen at a site, if one was
+abbrev pub chosen_at : Option Level → ℕ → Option ℕ
+chosen_at (Some level) index = Some index
+chosen_at None index = None
+
+abbrev pub chosen_by : Choice → Option ℕ
+chosen_by c = chosen_at c.level c.rule
 
 -- more rules are known, before all others
 abbrev pub Grows : List (KnownRule Rule Adopted) → List (KnownRule Rule Adopted) → Type 0

@@ -4,4 +4,5 @@ pub mod Guarding
 pub mod Knowledge
 pub mod Props
 pub mod Publishing
+pub mod Sums
 pub mod Writes

@@ -16,7 +16,7 @@ use rule::{Adopted, Rule};
 ///
 /// The rule then fits each state of this class, whichever pass made the class and whichever bound the rule: one number
 /// has one list of names. So it can be committed to an object of the class, with the class after that comes back.
-pub(crate) fn agree(
+pub fn agree(
     rule: &Rule,
     adopted: &Adopted,
     table: &ClassTable,

@@ -9,6 +9,7 @@ use crate::plain::plain_outcome;
 use crate::publishing::{PublishAnswer, answer_of, let_go};
 use crate::snapshots::Snapshots;
 use binder_cache::{Cache, CachePass};
+use call_site::{Choice, SitePass, Sites};
 use dyn_value::{Outcome, Value};
 use expando_class::{ClassRef, ClassTable};
 use rule::{Adopted, Rule};
@@ -38,8 +39,10 @@ pub struct Fitting<'a> {
 }
 
 impl KnownRules {
-    ghost use Rattle.std.specs.Prelude.{◌≡◌, ℕ, [], All, Contains, IfNone, IfOk, IfSome, Some, true};
+    ghost use Rattle.std.specs.Prelude.{◌≡◌, ◌≢◌, ◌<◌, ℕ, [], All, AllPairs, Contains, IfNone, IfOk, IfSome, Some, true};
     ghost use Rattle.binder_cache.specs.Known.{BringsFirst, KnownRule, Knows};
+    ghost use Rattle.call_site.specs.Chosen.{Chooses, TriesInOrder};
+    ghost use Rattle.call_site.specs.Passes.{made_of, ring_of, site_count, target_of, IsPassOf, IsSamePass};
     ghost use Rattle.expando_class.specs.Class.{IsClassOf, number_of};
     ghost use Rattle.object_model.specs.Plain.{plain_step};
     ghost use Rattle.rule.specs.declared.claimed.Adopted.{Adopted as Note};
@@ -49,7 +52,7 @@ impl KnownRules {
     ghost use Rattle.known_rules.specs.declared.publishing.PublishAnswer.TheVariants.{Past};
     ghost use Rattle.known_rules.specs.Guarding.{FitsClass, IsAdoptedIn, Passes};
     ghost use Rattle.known_rules.specs.Adoptions.{setting};
-    ghost use Rattle.known_rules.specs.Knowledge.{Grows, IsChosen, IsPublished, published_in, rules_in, setting_of};
+    ghost use Rattle.known_rules.specs.Knowledge.{chosen_by, Grows, IsChosen, IsPublished, published_in, rules_in, setting_of};
 
     /// No rule is known yet. The one error is want of memory.
     pub fn new(
@@ -84,6 +87,46 @@ impl KnownRules {
         ensures setting { setting_of self.new ≡ setting_of self.old }
     {
         cache.find(&mut self.rules, &Passing { operands, class })
+    }
+
+    /// Which known rule passes on these operands and a class of this number, as a site tries them: the one that its target
+    /// names, else the first that its ring names, from the word entered last on, else the most recent, which then comes
+    /// before all others. None is chosen exactly where no known rule passes.
+    ///
+    /// No word of the site changes, and the call waits for nobody. While only one pass of the sites was made, target and
+    /// ring are those that it settled.
+    pub fn select(
+        &mut self,
+        cache: &Cache<Rule>,
+        sites: &Sites,
+        pass: &mut SitePass,
+        site: u32,
+        operands: &[Value],
+        class: u128,
+    ) -> Choice
+        requires cache { (setting_of self.old).cache ≡ cache.now }
+        requires own { IsPassOf sites.now pass.old }
+        requires site { site < site_count sites.now }
+        ensures own { IsSamePass pass.old pass.new }
+        ensures selects { Chooses (Passes operands.now class) (rules_in self.old) (rules_in self.new) result.level result.rule }
+        ensures chosen { IsChosen (rules_in self.new) operands.now class (chosen_by result) }
+        ensures tries { made_of pass.old ≡ 1 → TriesInOrder (Passes operands.now class) (target_of pass.old site)
+            (ring_of pass.old site) (rules_in self.old) result.level result.rule }
+        ensures published { published_in self.new ≡ published_in self.old }
+        ensures setting { setting_of self.new ≡ setting_of self.old }
+    {
+        let probe = Passing { operands, class };
+        sites.select(cache, pass, &mut self.rules, site, &probe)
+    }
+
+    /// The word that names the known rule of an index at sites. It is not 0, and no two known rules have one word.
+    pub fn word(&self, index: u64) -> u64
+        requires { Knows (rules_in self.now) index }
+        ensures named { result ≢ 0 }
+        ensures apart { AllPairs (λ one other. one.word ≢ other.word) (rules_in self.now) }
+        ensures word { (k : KnownRule Shown Note) → Contains (rules_in self.now) k → k.index ≡ index → result ≡ k.word }
+    {
+        self.rules.word(index)
     }
 
     /// Adopts rules of other passes, each before all others, while there is room: those of this binder whose claim

@@ -13,5 +13,6 @@ mod snapshots;
 mod tests;
 
 pub use bound::BoundRule;
+pub use guard::agree;
 pub use known::{Fitting, KnownRules};
 pub use publishing::PublishAnswer;
