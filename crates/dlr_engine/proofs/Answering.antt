@@ -1,39 +1,33 @@
--- What is answered to the operation of a site.
-use Rattle.std.proofs.Common.{◌≡◌, ℕ, List, None, sym, subst}
+-- How the rule of a site's operation was chosen.
+use Rattle.std.proofs.Common.{◌≡◌, ◌≢◌, ◌∙◌, ℕ, List, Option, get_or, ap, sym, subst}
 use Rattle.dyn_value.specs.declared.value.Value.{Value}
 use Rattle.standard_binders.specs.declared.binder.Binder.{Binder}
-use Rattle.object_model.specs.Steps.{on_object}
-use Rattle.object_history.specs.declared.entry_head.EntryHead.{EntryHead}
-use Rattle.object_history.specs.declared.tag.RowTag.{RowTag}
-use Rattle.object_history.specs.Entries.{entry_by}
-use Rattle.task_code.specs.Codes.{Plan, binder_at}
+use Rattle.object_model.specs.Steps.{OnObject, on_object}
+use Rattle.task_code.specs.Codes.{binder_at}
 use Rattle.dlr_engine.specs.declared.answer.Answer.{Answer}
-use Rattle.dlr_engine.specs.declared.operation.Operation.{Operation}
 use Rattle.dlr_engine.specs.declared.pass.Pass.{Pass}
 use Rattle.dlr_engine.specs.declared.run.Run.{Run}
-use Rattle.dlr_engine.specs.Operations.{HasMadeAnswer, IsAnswered, IsAnsweredBy, IsEntered, IsPlainAnswer, IsProperAnswer, IsProperOutcome, head_at, on_object_of}
-use Rattle.dlr_engine.specs.Passes.{limit_in, log_in}
+use Rattle.dlr_engine.specs.Operations.{IsChosenAt, IsChosenBy}
+use Rattle.dlr_engine.specs.Knowing.{Uses}
+use Rattle.dlr_engine.specs.Passes.{has_others, kept_at, log_in, plan_in, KeepsRulesAt}
 
--- one on an object
-pub answered_on : (plan : Plan) (tag : RowTag) (o : Operation) (task site : ℕ) (old new : Pass) (a : Answer) → tag.binders.now ≡ plan.binders
-    → o.head ≡ head_at plan (log_in old).number task site → binder_at plan site ≡ o.binder.now
-    → HasMadeAnswer tag o (log_in old) (log_in new) a → IsAnswered plan task site o.operands.now old new a
-answered_on plan tag o task site old new a binders head binder made =
-    let c = log_in old in let d = log_in new in let ops = o.operands.now in let x = on_object_of o in
-    let entered : IsEntered plan.binders o.binder.now x (entry_by o.head x.operands a.outcome) a.place c d =
-    subst (λ (bs : List Binder). IsEntered bs o.binder.now x (entry_by o.head x.operands a.outcome) a.place c d) binders made.entered in
-    let by : IsAnsweredBy plan o.head o.binder.now ops c d a (on_object o.binder.now ops) =
-    subst (IsAnsweredBy plan o.head o.binder.now ops c d a) (sym o.on) (entered, made.row) in
-    subst (λ (b : Binder). IsAnsweredBy plan (head_at plan c.number task site) b ops c d a (on_object b ops)) (sym binder)
-    (subst (λ (h : EntryHead). IsAnsweredBy plan h o.binder.now ops c d a (on_object o.binder.now ops)) head by)
+-- by its object, or by its operands alone
+pub chosen_by : (run : Run) (b : Binder) (x : Option OnObject) (n site : ℕ) (operands : List Value) (old new : Pass) (a : Answer)
+    → on_object b operands ≡ x → binder_at (plan_in run) site ≡ b → n ≡ get_or (plan_in run).sites site 0
+    → Uses (has_others run) a.level (kept_at old n) (kept_at new n) (λ knew. IsChosenBy (plan_in run) operands (log_in new) a knew x)
+    → ((m : ℕ) → m ≢ n → KeepsRulesAt old new m) → IsChosenAt run site operands old new a
+chosen_by run b x n site operands old new a on binder number uses others =
+    let plan = plan_in run in let d = log_in new in let target = on_object (binder_at plan site) operands in
+    let same : target ≡ x = ap (λ (c : Binder). on_object c operands) binder ∙ on in record {
+      uses = subst (λ (m : ℕ). Uses (has_others run) a.level (kept_at old m) (kept_at new m) (λ knew. IsChosenBy plan operands d a knew target)) number
+          (subst (λ (t : Option OnObject). Uses (has_others run) a.level (kept_at old n) (kept_at new n) (λ knew. IsChosenBy plan operands d a knew t))
+          (sym same) uses);
+      others = λ m other. others m (λ e. other (e ∙ number));
+    }
 
--- one that looks at no object
-pub answered_plain : (plan : Plan) (b : Binder) (operands : List Value) (task site : ℕ) (old new : Pass) (a : Answer) → on_object b operands ≡ None
-    → binder_at plan site ≡ b → log_in new ≡ log_in old → IsPlainAnswer plan b operands a → IsAnswered plan task site operands old new a
-answered_plain plan b operands task site old new a none binder same plain =
-    let c = log_in old in let d = log_in new in let head = head_at plan c.number task site in
-    subst (λ (x : Binder). IsAnsweredBy plan head x operands c d a (on_object x operands)) (sym binder)
-    (subst (IsAnsweredBy plan head b operands c d a) (sym none) (plain, same))
-
-pub proper_on : (run : Run) (o : Operation) (old new : Pass) (a : Answer) → HasMadeAnswer run.tag o (log_in old) (log_in new) a → IsProperAnswer run a
-proper_on run o old new a made = subst (λ (n : ℕ). IsProperOutcome n (limit_in run) a.outcome) run.counted made.proper
+-- it was chosen so too for the same pass and the same answer
+pub chosen_too : (run : Run) (site : ℕ) (operands : List Value) (old new last : Pass) (a b : Answer) → last ≡ new → b ≡ a
+    → IsChosenAt run site operands old new a → IsChosenAt run site operands old last b
+chosen_too run site operands old new last a b pass answer chosen =
+    subst (λ (p : Pass). IsChosenAt run site operands old p b) (sym pass)
+    (subst (IsChosenAt run site operands old new) (sym answer) chosen)

@@ -1,10 +1,9 @@
 -- Operations that can be bound, and the rules that are bound for them.
-use Rattle.std.proofs.Common.{◌≡◌, ◌≢◌, ℕ, zero, suc, ◌+◌, ◌<◌, ◌≤◌, Bool, true, false, List, [], ◌∷◌, ◌++◌, length, ◌⊎◌, inl, inr, Option, None, Some, Result, Ok, Err, IfOk, refl, sym, ◌∙◌, ap, subst, arith, slice_get, get_or, take, length-append}
+use Rattle.std.proofs.Common.{◌≡◌, ℕ, zero, suc, ◌+◌, ◌<◌, ◌≤◌, Bool, true, false, List, [], ◌∷◌, ◌++◌, length, ◌⊎◌, inl, inr, Option, None, Some, Result, Ok, Err, IfOk, refl, sym, ◌∙◌, ap, subst, arith, slice_get, get_or, take, length-append}
 use Rattle.std.proofs.Math.Logic.{∥∥₁_elim}
 use Rattle.std.proofs.Props.{props}
 use Rattle.std.specs.List.{AllByRecursion, list_all}
-use Rattle.std.specs.Option.{option_map, option_and_then}
-use Rattle.std.specs.Prelude.{encode_utf8_all, nat_le, IsTrue, IsSome, IfSome, IsSomeAnd, is_some, not, ◌&&◌}
+use Rattle.std.specs.Prelude.{encode_utf8_all, nat_le, IsTrue, IfSome, IsSomeAnd, not, ◌&&◌}
 use Rattle.std.proofs.lemmas.List.{length-take-le, take_all, take_more}
 use Rattle.std.proofs.lemmas.Bool.{and_parts, le-leb}
 use Rattle.std.proofs.lemmas.List.Elements.{All-get_or}
@@ -19,8 +18,8 @@ use Rattle.dyn_value.specs.Proper.{IsProperIn}
 use Rattle.expando_class.specs.declared.class.ClassRef.{ClassRef}
 use Rattle.expando_class.specs.declared.pass.ClassPass.{ClassPass}
 use Rattle.expando_class.specs.declared.table.ClassTable.{ClassTable}
-use Rattle.expando_class.specs.Class.{number_of, names_of, IsClassOf}
-use Rattle.expando_class.specs.Pass.{IsPassOf, class_map}
+use Rattle.expando_class.specs.Class.{number_of, IsClassOf}
+use Rattle.expando_class.specs.Pass.{IsPassOf}
 use Rattle.expr_tree.specs.declared.node.Node.{Node}
 use Rattle.expr_tree.specs.Meanings.{State, IsThere, answer_in, is_plain, passes}
 use Rattle.expr_tree.specs.Trees.{root}
@@ -28,12 +27,9 @@ use Rattle.standard_binders.specs.declared.binder.Binder.{Binder}
 use Rattle.standard_binders.specs.declared.binder.Binder.TheVariants as binder
 use Rattle.standard_binders.specs.Binders.{is_on_members, operand_count_of}
 use Rattle.standard_binders.specs.Functions.{Functions, HaveFewParameters}
-use Rattle.object_model.specs.Accesses.{access_of, is_key}
+use Rattle.object_model.specs.Accesses.{is_key}
 use Rattle.object_model.specs.Plain.{plain_step}
 use Rattle.object_model.specs.Steps.{OnObject, if_on_members, on_object}
-use Rattle.rule_model.specs.declared.claim.Claim.{Claim}
-use Rattle.rule_model.specs.declared.claim.ClassClaim.{ClassClaim}
-use Rattle.rule_model.specs.Claims.{ListHolds, class_after}
 use Rattle.rule_model.specs.Soundness.{Answers, IsSound, Suit, looks_at_none}
 use Rattle.rule_model.specs.Tests.{known_value}
 use Rattle.meta_object.specs.declared.meta.MetaObject.{MetaObject}
@@ -41,11 +37,10 @@ use Rattle.meta_object.specs.Metas.{Describes, IsLendable, IsMetaOf, class_in_sh
 use Rattle.meta_object.specs.Operands.{AreMetasOf, CanBeBound, IsLentFor, lent_at}
 use Rattle.rule.specs.declared.rule.Rule.{Rule}
 use Rattle.rule.specs.Rules.{IsBoundRule, IsSoundRule, binder_of, body_of, claim_of, test_of}
-use Rattle.tree_eval.specs.States.{names_after}
 use Rattle.script_program.specs.Names.{has_short_names, is_short_name}
 use Rattle.dlr_engine.specs.declared.operation.Operation.{Operation}
 use Rattle.dlr_engine.specs.Bindings.{IsBindable, IsClaimedOf, IsRuleFor}
-use Rattle.dlr_engine.proofs.Commits.{Serves, root_there, root_plain}
+use Rattle.dlr_engine.proofs.Commits.{root_there, root_plain}
 
 pub if_ok : {T E : Type 0} {P Q : T → Type 0} (r : Result T E) → ((x : T) → P x → Q x) → IfOk r P → IfOk r Q
 if_ok (Ok x) each p = each x p
@@ -139,18 +134,6 @@ rule_for functions pass table b operands class metas r is are describe sound bou
 
 -- metaobjects, one after the other
 
-lent_none : (n : ℕ) (class : Option ClassRef) → n ≢ 0 → lent_at n class ≡ None
-lent_none zero class other = absurd (other refl)
-lent_none (suc n) class other = refl
-
-pub lent_other : (n : ℕ) (class : Option ClassRef) → n ≢ 0 → None ≡ lent_at n class
-lent_other n class other = sym (lent_none n class other)
-
-pub lendable_at : (n : ℕ) (class : Option ClassRef) (operands : List Value) (v : Value) → ((w : Value) → slice_get operands 0 ≡ Some w
-    → IsLendable class w) → slice_get operands n ≡ Some v → IsLendable (lent_at n class) v
-lendable_at zero class operands v given at = given v at
-lendable_at (suc n) class operands v given at = tt
-
 -- what stands in a grown list stood there before, or is the new one at its end
 grown_got : {A : Type 0} (bs : List A) (x b : A) (n : ℕ) → slice_get (bs ++ x ∷ []) n ≡ Some b → (slice_get bs n ≡ Some b) ⊎ ((n ≡ length bs) × (x ≡ b))
 grown_got [] x b zero e = inr (refl, cc)
@@ -235,70 +218,6 @@ lendable_on operands arguments o class is v at =
   where
     some_value : (a b : Value) → Some a ≡ Some b → a ≡ b
     some_value a b e = cc
-
--- the class after, as the claim names it
-
-names_some : (after : Option ClassRef) (more : List (List ℕ)) → option_map names_of after ≡ Some more → names_after after ≡ more
-names_some None more is = cc
-names_some (Some class) more is = some_names (names_of class) more is
-  where
-    some_names : (a b : List (List ℕ)) → Some a ≡ Some b → a ≡ b
-    some_names a b e = cc
-
-after_is : (claim : Claim) (c : ClassClaim) → claim.class ≡ Some c → class_after claim ≡ c.after
-after_is claim c is = ap (λ (k : Option ClassClaim). elim k [ Some d ↦ d.after | None ↦ None ]) is
-
--- what is claimed of the class holds of its names and those of the class after, where that is the one that is known
-lists_hold : (pass : ClassPass) (claim : Claim) (class : ClassRef) (after : Option ClassRef) → ((c : ClassClaim) → claim.class ≡ Some c
-    → IsClaimedOf pass c class)
-    → option_map names_of after ≡ option_and_then (class_map pass) (class_after claim) → (c : ClassClaim) → claim.class ≡ Some c
-    → ListHolds c (names_of class) (names_after after)
-lists_hold pass claim class after lists names c is =
-    let q = lists c is in
-    let more = q.1.0 in
-    record {
-      placed = q.1.1.0.placed;
-      full = q.1.1.0.full;
-      after = λ n e. names_some after more (names ∙ ap (option_and_then (class_map pass)) (after_is claim c is ∙ e) ∙ q.1.1.1 n e) ∙ q.1.1.0.after n e;
-    }
-
-none_named : (pass : ClassPass) (number : Option ℕ) → ((n : ℕ) → number ≡ Some n → IsSome (class_map pass n))
-    → None ≡ option_and_then (class_map pass) number → None ≡ number
-none_named pass None known is = refl
-none_named pass (Some n) known is = let there : IsSome (class_map pass n) = known n refl in cc
-
-known_after : (pass : ClassPass) (claim : Claim) (class : ClassRef) → ((c : ClassClaim) → claim.class ≡ Some c → IsClaimedOf pass c class) → (n : ℕ)
-    → class_after claim ≡ Some n → IsSome (class_map pass n)
-known_after pass claim class lists n is = by_class claim.class refl
-  where
-    by_class : (x : Option ClassClaim) → claim.class ≡ x → IsSome (class_map pass n)
-    by_class None e = let none : None ≡ Some n = sym (ap (λ (k : Option ClassClaim). elim k [ Some d ↦ d.after | None ↦ None ]) e) ∙ is in cc
-    by_class (Some c) e = let q = lists c e in let at = q.1.1.1 n (sym (after_is claim c e) ∙ is) in ap is_some at
-
-named_after : (pass : ClassPass) (claim : Claim) (class : ClassRef) (after : Option ClassRef) → ((c : ClassClaim) → claim.class ≡ Some c
-    → IsClaimedOf pass c class)
-    → option_map names_of after ≡ option_and_then (class_map pass) (class_after claim) → IfSome after (λ r. class_after claim ≡ Some (number_of r))
-    → option_map number_of after ≡ class_after claim
-named_after pass claim class None lists names number = none_named pass (class_after claim) (known_after pass claim class lists) names
-named_after pass claim class (Some r) lists names number = sym number
-
--- the rule serves for an operation on an object of the class that was lent
-pub serves_of : (functions : Functions) (pass : ClassPass) (table : ClassTable) (b : Binder) (operation : Operation) (class : ClassRef)
-    (after : Option ClassRef) (r : Rule)
-    → IsRuleFor functions pass b operation.operands.now (Some class) r
-    → on_object b operation.operands.now ≡ Some (record { object = operation.object; operands = operation.arguments.now })
-    → IsSome (access_of b operation.arguments.now)
-    → option_map names_of after ≡ option_and_then (class_map pass) (class_after (claim_of r))
-    → IfSome after (λ shown. class_after (claim_of r) ≡ Some (number_of shown)) → IfSome after (IsClassOf table)
-    → Serves r operation table class after
-serves_of functions pass table b operation class after r rule on suits names number own = record {
-  sound = rule.sound;
-  suits = subst (λ (x : Binder). IsSome (access_of x operation.arguments.now)) (sym rule.binder_is) suits;
-  passes = rule.passes (number_of class) (lent_on b operation.operands.now (record { object = operation.object; operands = operation.arguments.now }) class on);
-  holds = record { lists = lists_hold pass (claim_of r) class after rule.lists names };
-  named = named_after pass (claim_of r) class after rule.lists names number;
-  own = own;
-}
 
 -- a rule for an operation that looks at no object
 

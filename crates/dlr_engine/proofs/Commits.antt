@@ -20,20 +20,22 @@ use Rattle.standard_binders.specs.declared.binder.Binder.{Binder}
 use Rattle.object_model.specs.Accesses.{Access, access_of}
 use Rattle.object_model.specs.Members.{Members, AreMembers}
 use Rattle.object_model.specs.Steps.{Step, object_step, step_by}
-use Rattle.rule_model.specs.Claims.{ClassHolds, class_after}
+use Rattle.rule_model.specs.Claims.{ClassHolds}
 use Rattle.rule_model.specs.Soundness.{named_class}
 use Rattle.tree_eval.specs.States.{names_after, state_of}
 use Rattle.object_history.specs.declared.entry_head.EntryHead.{EntryHead}
 use Rattle.object_history.specs.declared.object_row.ObjectRow.{ObjectRow}
 use Rattle.object_history.specs.declared.ready.Ready.{Ready}
 use Rattle.object_history.specs.declared.tag.RowTag.{RowTag}
-use Rattle.object_history.specs.Operands.{IsOperation}
 use Rattle.object_history.specs.Readies.{CanCommit, IsReady, IsReadyFor, arguments_of, operands_of}
 use Rattle.object_history.specs.Rows.{IsUntouched, members_in, state_in, table_of, tag_of}
 use Rattle.rule.specs.declared.rule.Rule.{Rule}
 use Rattle.rule.specs.Fitting.{Fits, does_step}
 use Rattle.rule.specs.Rules.{IsSoundRule, binder_of, body_of, claim_of, test_of}
+use Rattle.known_rules.specs.Guarding.{FitsClass}
 use Rattle.dlr_engine.specs.declared.operation.Operation.{Operation}
+use Rattle.dlr_engine.specs.Operations.{on_object_of}
+use Rattle.dlr_engine.proofs.Targets.{target_suits}
 
 -- what holds of all nodes of a body holds of its root
 pub root_there : (operands values : List Value) (body : List Node) → AllByRecursion (IsThere operands values) body → IsThere operands values (root body)
@@ -47,20 +49,30 @@ root_plain (n ∷ []) all = (and_parts (is_plain n) true all).0
 root_plain (n ∷ m ∷ ns) all = root_plain (m ∷ ns) (and_parts (is_plain n) (list_all is_plain (m ∷ ns)) all).1
 
 -- A rule serves for an operation on an object of this class: it is sound, its test is true, and what it claims holds of
--- the names of the class and of the class after, which is the one that it names.
+-- the names of the class and of the class after, which is the one that its body names.
 pub record Serves (r : Rule) (operation : Operation) (table : ClassTable) (class : ClassRef) (after : Option ClassRef) : Type 0 where
   pub sound : IsSoundRule r
   pub suits : IsSome (access_of (binder_of r) operation.arguments.now)
   pub passes : passes (test_of r) operation.operands.now (number_of class) ≡ true
   pub holds : ClassHolds (claim_of r) (names_of class) (names_after after)
-  pub named : option_map number_of after ≡ class_after (claim_of r)
+  pub named : option_map number_of after ≡ named_class (root (body_of r))
   pub own : IfSome after (IsClassOf table)
 
 there_prop : (operands values : List Value) (n : Node) → IsProp (IsThere operands values n)
 there_prop operands values n = hlevel props
 
-named_prop : (a b : Option ℕ) → IsProp (a ≡ b)
-named_prop a b = hlevel props
+-- a rule of the operation's binder that fits the class serves for the operation
+pub serves_class : (r : Rule) (operation : Operation) (table : ClassTable) (class : ClassRef) (after : Option ClassRef)
+    → FitsClass r operation.operands.now table class after → binder_of r ≡ operation.binder.now → Serves r operation table class after
+serves_class r operation table class after fits binder_is = record {
+  sound = fits.sound;
+  suits = subst (λ (b : Binder). IsSome (access_of b operation.arguments.now)) (sym binder_is)
+      (target_suits operation.binder.now operation.operands.now (on_object_of operation) operation.on operation.suit);
+  passes = (fits.fits []).passes;
+  holds = (fits.fits []).holds;
+  named = fits.named;
+  own = fits.own;
+}
 
 some_access : (access : Option Access) → IsSome access → (a : Access) × (access ≡ Some a)
 some_access None there = cc
@@ -71,9 +83,6 @@ some_step : (ms : Members) (b : Binder) (arguments : List Value) → IsSome (acc
 some_step ms b arguments suits =
     let access = some_access (access_of b arguments) suits in
     (step_by access.0 ms, ap (option_map (λ a. step_by a ms)) access.1)
-
-pub is_operation : (operation : Operation) → IsOperation operation.operands.now
-is_operation operation = subst IsOperation (sym operation.target) tt
 
 -- its body names only operands and places that are there
 pub there_of : (r : Rule) (operation : Operation) (row : ObjectRow) (after : Option ClassRef) → AreMembers (members_in row)
@@ -115,7 +124,7 @@ can_commit r b operation row more after ready body serves binder_is body_is same
       proper = subst (λ (t : RowTag). AllByRecursion (IsProperIn t.functions t.limit) (arguments_of ready)) (sym same.tag)
           (subst (AllByRecursion (IsProperIn (tag_of row).functions (tag_of row).limit)) arguments proper);
       ready = subst (λ (nodes : List Node). IsReadyFor ready more nodes) body_is is.ready;
-      named = serves.named ∙ ∥∥₁_elim serves.sound (named_prop (class_after (claim_of r)) (named_class (root (body_of r)))) (λ sound. sound.moves);
+      named = serves.named;
       own = subst (λ (t : ClassTable). IfSome after (IsClassOf t)) (sym same.table) serves.own;
     }
 

@@ -1,17 +1,22 @@
 mod Answering
 mod BoundRules
+mod Choices
 mod Commits
 mod Gathering
 mod Histories
+mod Keeping
 mod LevelSums
 mod Numbers
 mod PassMaking
+mod Permuting
 mod PlainAnswers
+mod Published
 mod Pushes
-mod Serving
+mod Settings
 mod ShortFaults
 mod Sites
 mod Starts
 mod Targets
 mod Turning
+mod Using
 pub mod Crossing

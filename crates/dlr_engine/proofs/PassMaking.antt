@@ -9,10 +9,11 @@ use Rattle.object_history.specs.declared.object_row.ObjectRow.{ObjectRow}
 use Rattle.object_history.specs.Rows.{journal_of}
 use Rattle.turn_rows.specs.declared.view.Log.{Log}
 use Rattle.turn_rows.specs.Passes.{entries_at}
+use Rattle.answered_operations.specs.declared.operation.AnsweredOperation.{AnsweredOperation}
 use Rattle.dlr_engine.specs.declared.pass.Pass.{Pass}
 use Rattle.dlr_engine.specs.declared.run.Run.{Run}
 use Rattle.dlr_engine.specs.Levels.{total}
-use Rattle.dlr_engine.specs.Passes.{AreNew, ArePasses, IsNew, IsPartOf, IsPassOf, IsUntaken, made_in, number_of, passes_in}
+use Rattle.dlr_engine.specs.Passes.{answered_of, levels_of, AreNew, ArePasses, IsNew, IsPartOf, IsPassOf, IsUntaken, made_in, number_of, passes_in}
 
 -- a pass that is made from another one has that one as new as before
 pub still_new : (old new : Pass) → IsNew old → IsUntaken old new → IsNew new
@@ -23,7 +24,16 @@ still_new old new is untaken = record {
   binds = untaken.uncounted.binds ∙ is.binds;
   calls = untaken.calls ∙ is.calls;
   kept = untaken.kept ∙ is.kept;
+  rules = λ n.
+      let same = untaken.uncounted.rules n in
+      (same.rules ∙ (is.rules n).0, same.published ∙ (is.rules n).1);
+  dropped = untaken.uncounted.dropped ∙ is.dropped;
+  answered = untaken.uncounted.answered ∙ is.answered;
 }
+
+-- a new pass answered as many operations as it counts
+none_listed : (p : Pass) → IsNew p → length (answered_of p) ≡ total (levels_of p)
+none_listed p new = ap (λ (os : List AnsweredOperation). length os) new.answered ∙ sym new.levels
 
 -- the pass after the first one and so many others, which has done nothing
 abbrev pub IsOther : Run → ℕ → Pass → Type 0
@@ -49,6 +59,7 @@ other_is run k p below is = record {
   below = omega (arith, below, is.1);
   first = λ first. absurd (omega (arith, first, is.1));
   apart = ap (λ (cs : List (Log ObjectRow)). length cs) is.2.kept;
+  listed = none_listed p is.2;
 }
 
 first_is : (run : Run) (p : Pass) → 0 < passes_in run → IsPartOf run p → number_of p ≡ 0 → made_in p ≡ passes_in run → IsNew p → IsPassOf run p
@@ -57,6 +68,7 @@ first_is run p there part first made new = record {
   below = omega (arith, there, first);
   first = λ e. made;
   apart = ap (λ (cs : List (Log ObjectRow)). length cs) new.kept;
+  listed = none_listed p new;
 }
 
 pub all_made : (run : Run) (p : Pass) (ps : List Pass) → 0 < passes_in run → IsPartOf run p → number_of p ≡ 0 → made_in p ≡ passes_in run → IsNew p

@@ -1,6 +1,6 @@
 -- What an operation answers that looks at no object: where its number or its text is proper, it is an answer of the run,
 -- and what its fault names is short.
-use Rattle.std.proofs.Common.{◌≡◌, ℕ, Bool, true, false, ◌&&◌, ◌++◌, ◌+◌, ◌-◌, List, [], ◌∷◌, Option, None, Some, Result, Ok, drop}
+use Rattle.std.proofs.Common.{◌≡◌, ℕ, Bool, true, false, ◌&&◌, ◌++◌, ◌+◌, ◌-◌, List, [], ◌∷◌, Option, None, Some, Result, Ok, drop, subst, sym}
 use Rattle.std.specs.Prelude.{Err, IfSome, ◌||◌, ℤ, pos, ◌-ℤ◌, ◌*ℤ◌, ◌+ℤ◌, neg_ℤ, encode_utf8_all, nat_eq, nat_le, length, int_div, int_rem, not, if◌then◌else◌, codes, ok_or, option_map}
 use Rattle.std.proofs.lemmas.Bool.{and_parts}
 use Rattle.std.specs.List.{AllByRecursion, list_all}
@@ -30,7 +30,7 @@ use Rattle.standard_binders.specs.Arguments.{Arguments}
 use Rattle.standard_binders.specs.Functions.{Functions, parameters_of}
 use Rattle.object_model.specs.Plain.{IsAnswerIn, called, called_by, created, first_stray, index_of, invoked, is_parameter, member_of, plain_step}
 use Rattle.script_program.specs.Names.{has_short_names, is_short_name}
-use Rattle.dlr_engine.specs.Answers.{HasProperFault}
+use Rattle.dlr_engine.specs.Answers.{HasProperFault, IsPlainOutcome}
 use Rattle.dlr_engine.specs.Bindings.{HasProperContent}
 use Rattle.dlr_engine.proofs.ShortFaults.{IsShort, IsShortFault, HasShortFault, proper_fault, short_name, short_first}
 
@@ -254,3 +254,14 @@ pub plain_fault : (functions : Functions) (objects : ℕ) (b : Binder) (operands
 plain_fault functions objects b operands short all content =
     proper_fault (plain_step functions b operands)
     (short_of (length functions) objects (plain_step functions b operands) (plain_names functions objects b operands short all)) content
+
+-- an outcome that the operands determine
+pub is_plain_outcome : (functions : Functions) (objects : ℕ) (b : Binder) (operands : List Value) (o : Outcome) → has_short_names b ≡ true
+    → AllByRecursion (IsProperIn (length functions) objects) operands → o ≡ plain_step functions b operands → HasProperContent o
+    → IsPlainOutcome functions b operands o
+is_plain_outcome functions objects b operands o short proper is content = record {
+  is = is;
+  answer = λ others all. subst (λ (x : Outcome). IsAnswerIn (length functions) others x) (sym is)
+      (plain_answers functions others b operands short all (subst HasProperContent is content));
+  fault = subst HasProperFault (sym is) (plain_fault functions objects b operands short proper (subst HasProperContent is content));
+}

@@ -1,8 +1,9 @@
 -- A turn of an operation, in what its pass has seen and made.
-use Rattle.std.proofs.Common.{◌≡◌, ◌≢◌, inl, inr, ℕ, ◌+◌, Bool, true, false, nat_eq, List, [], ◌∷◌, ◌++◌, length, Some, Result, Ok, Err, IfOk, refl, sym, ◌∙◌, ap, subst, arith, append-nil, length-append}
+use Rattle.std.proofs.Common.{◌≡◌, ◌≢◌, inl, inr, ℕ, Bool, true, false, nat_eq, List, [], ◌∷◌, ◌++◌, length, Some, Result, Ok, Err, IfOk, refl, sym, ◌∙◌, ap, subst, arith, append-nil, length-append}
 use Rattle.std.proofs.lemmas.Bool.{eqb-true}
 use Rattle.std.proofs.lemmas.Bool.Decides.{nat_tests}
-use Rattle.std.specs.Prelude.{OnErr, OnOk}
+use Rattle.std.proofs.Math.Seq.{take-append_seam}
+use Rattle.std.specs.Prelude.{OnErr, take}
 use Rattle.std.specs.declared.alloc.AllocError.{AllocError}
 use lib.ListN.{get_elem?}
 use Rattle.dyn_value.specs.declared.entry.Entry.{Entry}
@@ -12,17 +13,24 @@ use Rattle.object_model.specs.Steps.{object_step}
 use Rattle.object_history.specs.declared.object_row.ObjectRow.{ObjectRow}
 use Rattle.object_history.specs.declared.tag.RowTag.{RowTag}
 use Rattle.object_history.specs.Entries.{entry_by}
-use Rattle.object_history.specs.Histories.{by_of}
-use Rattle.object_history.specs.Rows.{journal_of, tag_of}
+use Rattle.expando_class.specs.declared.table.ClassTable.{ClassTable}
+use Rattle.standard_binders.specs.Functions.{Functions}
+use Rattle.rule_model.specs.States.{HasMembers}
+use Rattle.tree_eval.specs.States.{state_of}
+use Rattle.object_history.specs.Histories.{by_of, mark_of}
+use Rattle.object_history.specs.Rows.{journal_of, state_in, tag_of}
 use Rattle.turn_rows.specs.declared.view.Log.{Log}
 use Rattle.turn_rows.specs.Lists.{AddsToBoth, StartsWith, made_by}
 use Rattle.turn_rows.specs.Passes.{entries_at}
+use Rattle.dlr_engine.specs.declared.answer.Level.{Level}
 use Rattle.dlr_engine.specs.declared.mind.Mind.{Mind}
+use Rattle.dlr_engine.specs.declared.operation.Done.{Done}
 use Rattle.dlr_engine.specs.declared.operation.Made.{Made}
 use Rattle.dlr_engine.specs.declared.operation.Operation.{Operation}
-use Rattle.dlr_engine.specs.Makings.{Makes, Turned}
-use Rattle.dlr_engine.specs.Minds.{binds_in, MayHaveBound}
-use Rattle.dlr_engine.specs.Operations.{HasMade, IsIdle, IsProperOutcome, RowIsIdle, RowStays}
+use Rattle.dlr_engine.specs.Knowing.{IsChosenFor, KnownList}
+use Rattle.dlr_engine.specs.Makings.{IsDone, Makes, Turned}
+use Rattle.dlr_engine.specs.Minds.{MayHaveBound}
+use Rattle.dlr_engine.specs.Operations.{HasMade, IsChosenThere, IsIdle, IsProperOutcome, RowIsIdle, RowStays, on_object_of}
 use Rattle.dlr_engine.specs.Passes.{mine_in, seen_in}
 
 same_last : (es : List Entry) (e f : Entry) → es ++ e ∷ [] ≡ es ++ f ∷ [] → e ≡ f
@@ -102,23 +110,32 @@ idle_row object c d x y row false other turn same =
 pub is_idle : (object : ℕ) (c d : Log ObjectRow) (x y : ObjectRow) → IsTurnOf object c d x y → journal_of y ≡ journal_of x → IsIdle c d
 is_idle object c d x y turn same = λ row. idle_row object c d x y row (nat_eq row object) refl turn same
 
+-- how the rule of an operation that was made in a turn was chosen
+pub chosen_there : (binders : List Binder) (o : Operation) (d : Log ObjectRow) (x y : ObjectRow) (m : Made) (level : Level) (rules : KnownList)
+    → seen_in d o.object ≡ journal_of y → (tag_of x).binders.now ≡ binders → Makes o x y m
+    → IsChosenFor level rules o.operands.now (mark_of x) → IsChosenThere binders (on_object_of o) o.operands.now d level m.place rules
+chosen_there binders o d x y m level rules sees same makes chosen =
+    let e = entry_by o.head o.arguments.now m.outcome in
+    let before : take m.place (seen_in d o.object) ≡ journal_of x =
+    ap (take m.place) (sees ∙ makes.journal) ∙ ap (λ (n : ℕ). take n (journal_of x ++ e ∷ [])) makes.place
+    ∙ take-append_seam (journal_of x) (e ∷ []) in
+    record {
+      state = state_of (state_in x);
+      has = subst (λ (es : List Entry). HasMembers (state_of (state_in x)) (members_after binders [] es)) (sym before)
+          (subst (λ (bs : List Binder). HasMembers (state_of (state_in x)) (members_after bs [] (journal_of x))) same x.kept);
+      chosen = chosen;
+    }
+
 -- what a turn came to
 
-pub if_made : (P : Made → Type 0) (o : Operation) (m n : Mind) (x y : ObjectRow) (r : Result Made AllocError) → Turned o m x n y (Some r)
-    → ((made : Made) → Makes o x y made → P made) → IfOk r P
-if_made P o m n x y (Ok made) turned each = each made turned.0
-if_made P o m n x y (Err e) turned each = tt
+pub if_done : (P : Done → Type 0) (functions : Functions) (table : ClassTable) (o : Operation) (m n : Mind) (x y : ObjectRow) (rules : KnownList)
+    (r : Result Done AllocError) → Turned functions table o m x n rules y (Some r)
+    → ((d : Done) → IsDone functions table o m x n rules y d → P d) → IfOk r P
+if_done P functions table o m n x y rules (Ok d) turned each = each d turned
+if_done P functions table o m n x y rules (Err e) turned each = tt
 
-pub if_refused : (P : Type 0) (o : Operation) (m n : Mind) (x y : ObjectRow) (r : Result Made AllocError) → Turned o m x n y (Some r)
-    → (journal_of y ≡ journal_of x → P) → OnErr r P
-if_refused P o m n x y (Ok made) turned each = tt
-if_refused P o m n x y (Err e) turned each = each turned.0
-
-pub bound_once : (o : Operation) (m n : Mind) (x y : ObjectRow) (r : Result Made AllocError) → Turned o m x n y (Some r)
-    → OnOk r (binds_in n ≡ binds_in m + 1)
-bound_once o m n x y (Ok made) turned = turned.1
-bound_once o m n x y (Err e) turned = tt
-
-pub bound_maybe : (o : Operation) (m n : Mind) (x y : ObjectRow) (r : Result Made AllocError) → Turned o m x n y (Some r) → OnErr r (MayHaveBound m n)
-bound_maybe o m n x y (Ok made) turned = tt
-bound_maybe o m n x y (Err e) turned = turned.1
+pub if_refused : (P : Type 0) (functions : Functions) (table : ClassTable) (o : Operation) (m n : Mind) (x y : ObjectRow) (rules : KnownList)
+    (r : Result Done AllocError) → Turned functions table o m x n rules y (Some r)
+    → (journal_of y ≡ journal_of x → MayHaveBound m n → P) → OnErr r P
+if_refused P functions table o m n x y rules (Ok d) turned each = tt
+if_refused P functions table o m n x y rules (Err e) turned each = each turned.0 turned.1

@@ -5,6 +5,7 @@ pub mod Closing
 pub mod Draws
 pub mod Engines
 pub mod Gatherings
+pub mod Knowing
 pub mod Levels
 pub mod Makings
 pub mod Minds

@@ -1,5 +1,5 @@
 -- What comes of an operation.
-use Rattle.std.specs.Prelude.{◌≡◌, ◌≢◌, ◌⊎◌, ◌+◌, ◌++◌, ℕ, List, [], ◌∷◌, Option, None, Some, get_or, length}
+use Rattle.std.specs.Prelude.{◌≡◌, ◌≢◌, ◌⊎◌, ◌+◌, ◌++◌, ℕ, List, [], ◌∷◌, Option, None, Some, get_or, length, take}
 use Rattle.std.specs.List.{AllByRecursion}
 use Rattle.dyn_value.specs.declared.entry.Entry.{Entry}
 use Rattle.dyn_value.specs.declared.outcome.Outcome.{Outcome}
@@ -10,6 +10,7 @@ use Rattle.object_history.specs.declared.object_row.ObjectRow.{ObjectRow}
 use Rattle.object_history.specs.declared.tag.RowTag.{RowTag}
 use Rattle.object_history.specs.Entries.{entry_by}
 use Rattle.object_model.specs.Journals.{IsLegal, members_after, outcome_by}
+use Rattle.object_model.specs.Members.{Members}
 use Rattle.object_model.specs.Plain.{IsAnswerIn, plain_step}
 use Rattle.object_model.specs.Steps.{OnObject, object_step, on_object}
 use Rattle.standard_binders.specs.declared.binder.Binder.{Binder}
@@ -24,8 +25,9 @@ use Rattle.dlr_engine.specs.declared.operation.Operation.{Operation}
 use Rattle.dlr_engine.specs.declared.pass.Pass.{Pass}
 use Rattle.dlr_engine.specs.declared.run.Run.{Run}
 use Rattle.dlr_engine.specs.Answers.{HasProperFault}
+use Rattle.dlr_engine.specs.Knowing.{IsChosenFor, IsChosenOn, KnownList, LearnsAtMost, Uses}
 use Rattle.dlr_engine.specs.Levels.{raised}
-use Rattle.dlr_engine.specs.Passes.{binds_of, calls_of, drawn_of, levels_of, limit_in, log_in, mine_in, plan_in, seen_in, IsSamePass}
+use Rattle.dlr_engine.specs.Passes.{answered_of, binds_of, calls_of, drawn_of, has_others, kept_at, levels_of, limit_in, log_in, mine_in, plan_in, seen_in, IsSamePass, KeepsRulesAt}
 
 -- Of this row what a pass has seen and made is as it was.
 pub record RowStays (c d : Log ObjectRow) (row : ℕ) : Type 0 where
@@ -111,6 +113,28 @@ IsAnswered plan task site operands old new a =
     let c = log_in old in let b = binder_at plan site in
     IsAnsweredBy plan (head_at plan c.number task site) b operands c (log_in new) a (on_object b operands)
 
+-- the members of an object before the entry at this place, as a pass has seen them
+abbrev pub members_before : List Binder → Log ObjectRow → ℕ → ℕ → Members
+members_before binders d row place = members_after binders [] (take place (seen_in d row))
+
+-- the rule of an operation on an object was chosen by the class that the object had in the turn, of these known rules
+abbrev pub IsChosenThere : List Binder → OnObject → List Value → Log ObjectRow → Level → ℕ → KnownList → Type 0
+IsChosenThere binders x operands d level place knew =
+    IsChosenOn (members_before binders d x.object place) (IsChosenFor level knew operands)
+
+-- how the rule of an operation was chosen: on its object, or on its operands alone
+abbrev pub IsChosenBy : Plan → List Value → Log ObjectRow → Answer → KnownList → Option OnObject → Type 0
+IsChosenBy plan operands d a knew (Some x) = IsChosenThere plan.binders x operands d a.level a.place knew
+IsChosenBy plan operands d a knew None = IsChosenFor a.level knew operands 0
+
+-- How an operation was answered by rules. At the level of binding none passed of those that the pass knew of the site's
+-- binder, and one was bound; at any other one that it knew passed. What it has of other binders' rules stays.
+pub record IsChosenAt (run : Run) (site : ℕ) (operands : List Value) (old new : Pass) (a : Answer) : Type 0 where
+  pub uses : let plan = plan_in run in let n = get_or plan.sites site 0 in
+      Uses (has_others run) a.level (kept_at old n) (kept_at new n)
+      (λ knew. IsChosenBy plan operands (log_in new) a knew (on_object (binder_at plan site) operands))
+  pub others : (n : ℕ) → n ≢ get_or (plan_in run).sites site 0 → KeepsRulesAt old new n
+
 -- Of the pass its number and its draws stay, and it was taken for one call more.
 pub record IsTaken (old new : Pass) : Type 0 where
   pub same : IsSamePass old new
@@ -127,8 +151,11 @@ pub record IsCounted (level : Level) (old new : Pass) : Type 0 where
   pub levels : levels_of new ≡ raised level (levels_of old)
   pub binds : BindsAt level (binds_of old) (binds_of new)
 
--- memory was refused: nothing was made and counted, but the pass may have seen more and bound once
-pub record IsRefused (old new : Pass) : Type 0 where
+-- Memory was refused: nothing was made and counted, but the pass may have seen more, bound once, and learned rules of
+-- other passes.
+pub record IsRefused (run : Run) (old new : Pass) : Type 0 where
   pub idle : IsIdle (log_in old) (log_in new)
   pub levels : levels_of new ≡ levels_of old
   pub binds : (binds_of new ≡ binds_of old) ⊎ (binds_of new ≡ binds_of old + 1)
+  pub rules : (n : ℕ) → LearnsAtMost (has_others run) (kept_at old n) (kept_at new n)
+  pub answered : answered_of new ≡ answered_of old

@@ -1,12 +1,14 @@
 -- What contracts see of an engine's run and of its passes.
-use Rattle.std.specs.Prelude.{◌≡◌, ℕ, ◌+◌, ◌<◌, List, [], ◌∷◌, ◌++◌, length, map, slice_index_or}
+use Rattle.std.specs.Prelude.{◌≡◌, ◌==◌, not, Bool, ℕ, ◌+◌, ◌<◌, List, [], ◌∷◌, ◌++◌, length, map, slice_get, slice_index_or}
+use Rattle.answered_operations.specs.declared.operation.AnsweredOperation.{AnsweredOperation}
+use Rattle.answered_operations.specs.Operations.{operations_of}
 use Rattle.dyn_value.specs.declared.entry.Entry.{Entry}
 use Rattle.object_history.specs.declared.object_row.ObjectRow.{ObjectRow}
 use Rattle.object_history.specs.Histories.{by_of}
 use Rattle.object_history.specs.Rows.{journal_of}
 use Rattle.script_program.specs.declared.program.Program.{Program}
 use Rattle.script_program.specs.Plans.{plan_of}
-use Rattle.script_program.specs.Programs.{script_of}
+use Rattle.script_program.specs.Programs.{functions_of, script_of}
 use Rattle.task_code.specs.Codes.{Plan}
 use Rattle.turn_rows.specs.declared.view.Log.{Log}
 use Rattle.turn_rows.specs.Passes as turns
@@ -14,7 +16,9 @@ use Rattle.dlr_engine.specs.declared.answer.Levels.{Levels}
 use Rattle.dlr_engine.specs.declared.pass.Drawn.{Drawn}
 use Rattle.dlr_engine.specs.declared.pass.Pass.{Pass}
 use Rattle.dlr_engine.specs.declared.run.Run.{Run}
+use Rattle.known_rules.specs.declared.known.KnownRules.{KnownRules}
 use Rattle.dlr_engine.specs.Draws.{number_drawn}
+use Rattle.dlr_engine.specs.Knowing.{kept_with, published_by, rules_of, Kept, KnownList, KnowsEach, KnowsNone}
 use Rattle.dlr_engine.specs.Levels.{total}
 use Rattle.dlr_engine.specs.Minds as minds
 
@@ -88,17 +92,55 @@ kept_in p = turns.kept_of p.rows
 abbrev pub logs_in : Pass → List (Log ObjectRow)
 logs_in p = turns.logs_of p.rows
 
+-- the rules that it knows of the binder with this number, most recent first
+abbrev pub rules_at : Pass → ℕ → KnownList
+rules_at p n = rules_of (slice_get p.known.items n)
+
+-- the operations that it answered, in order
+abbrev pub answered_of : Pass → List AnsweredOperation
+answered_of p = operations_of p.answered
+
+-- how many rules it dropped for want of memory
+abbrev pub dropped_of : Pass → ℕ
+dropped_of p = p.dropped
+
+-- how many of them it published
+abbrev pub published_at : Pass → ℕ → ℕ
+published_at p n = published_by (slice_get p.known.items n)
+
+-- what it has of the rules of this binder
+abbrev pub kept_at : Pass → ℕ → Kept
+kept_at p n = kept_with (rules_at p n) (published_at p n) (dropped_of p)
+
+-- what it knows of the rules of this binder stays, and how many of them it published
+pub record KeepsRulesAt (old new : Pass) (n : ℕ) : Type 0 where
+  pub rules : rules_at new n ≡ rules_at old n
+  pub published : published_at new n ≡ published_at old n
+
+-- whether the run has further passes beside the first
+abbrev pub has_others : Run → Bool
+has_others run = not (passes_in run == 1)
+
+-- what is known of the rules of each binder is of the run's caches, its functions and its classes
+abbrev pub KnowsRulesOf : Run → List KnownRules → Type 0
+KnowsRulesOf run known =
+    KnowsEach run.caches.items run.tag.binders.now (functions_of (program_in run)) run.table known
+
 -- it is a pass of the run, while passes are made or joined
 pub record IsPartOf (run : Run) (p : Pass) : Type 0 where
   pub rows : turns.IsPassOf run.rows p.rows
   pub table : minds.table_in p.mind ≡ run.table
+  pub known : KnowsRulesOf run p.known.items
+  pub classes : length p.classes.items ≡ limit_in run
 
--- it is a pass of the run, all of whose passes were made, and none was joined to it
+-- it is a pass of the run, all of whose passes were made, and none was joined to it; it answered as many operations as it
+-- counts
 pub record IsPassOf (run : Run) (p : Pass) : Type 0 where
   pub part : IsPartOf run p
   pub below : number_of p < passes_in run
   pub first : number_of p ≡ 0 → made_in p ≡ passes_in run
   pub apart : length (kept_in p) ≡ 0
+  pub listed : length (answered_of p) ≡ total (levels_of p)
 
 -- these are all passes of the run, each at the place of its number
 pub record ArePasses (run : Run) (ps : List Pass) : Type 0 where
@@ -110,7 +152,7 @@ pub record ArePasses (run : Run) (ps : List Pass) : Type 0 where
 abbrev pub IsSamePass : Pass → Pass → Type 0
 IsSamePass old new = turns.IsSamePass old.rows new.rows
 
--- It has seen, made, drawn, counted and bound nothing, and no pass was joined to it.
+-- It has seen, made, drawn, counted and bound nothing, knows no rules, and no pass was joined to it.
 pub record IsNew (p : Pass) : Type 0 where
   pub seen : (row : ℕ) → seen_of p row ≡ []
   pub drawn : drawn_of p ≡ []
@@ -118,15 +160,21 @@ pub record IsNew (p : Pass) : Type 0 where
   pub binds : binds_of p ≡ 0
   pub calls : calls_of p ≡ 0
   pub kept : kept_in p ≡ []
+  pub rules : KnowsNone p.known.items
+  pub dropped : dropped_of p ≡ 0
+  pub answered : answered_of p ≡ []
 
 -- each of them has done nothing
 abbrev pub AreNew : List Pass → Type 0
 AreNew ps = (k : ℕ) (d : Pass) → k < length ps → IsNew (slice_index_or ps k d)
 
--- what it counts and how often it bound stay
+-- what it answered and counts, how often it bound and what it knows of rules stay
 pub record IsUncounted (old new : Pass) : Type 0 where
   pub levels : levels_of new ≡ levels_of old
   pub binds : binds_of new ≡ binds_of old
+  pub rules : (n : ℕ) → KeepsRulesAt old new n
+  pub dropped : dropped_of new ≡ dropped_of old
+  pub answered : answered_of new ≡ answered_of old
 
 -- nothing of it changes but the count of passes that it made
 pub record IsUntaken (old new : Pass) : Type 0 where

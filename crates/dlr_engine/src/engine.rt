@@ -4,9 +4,8 @@ ghost use Rattle.script_program.specs.Programs.{functions_of};
 ghost use Rattle.standard_binders.specs.Functions.{HaveFewParameters};
 ghost use Rattle.dlr_engine.specs.BindingProps.{few_prop};
 
-use crate::answer::{Answer, Level, Levels};
+use crate::answer::Answer;
 use crate::closed::Closed;
-use crate::mind::Mind;
 use crate::operation::Operation;
 use crate::pass::{Drawn, Pass};
 use crate::run::Run;
@@ -29,17 +28,18 @@ pub struct Engine<'p, L: Language + Drop> {
 }
 
 impl<'p, L: Language + Drop> Engine<'p, L> {
-    ghost use Rattle.std.specs.Prelude.{◌≡◌, ◌+◌, ◌^◌, ◌<◌, ◌≤◌, ℕ, true, length, map, IfOk, None, OnErr, OnOk, Some, slice_get};
+    ghost use Rattle.std.specs.Prelude.{◌≡◌, ◌≢◌, ◌+◌, ◌++◌, ◌∷◌, [], ◌^◌, ◌<◌, ◌≤◌, ℕ, true, length, map, IfOk, None, OnErr, OnOk, Some, slice_get};
     ghost use Rattle.script_program.specs.Names.{has_short_names};
     ghost use Rattle.script_program.specs.Programs.{script_of};
     ghost use Rattle.object_model.specs.Steps.{on_object};
     ghost use Rattle.rule_model.specs.Soundness.{Suit};
     ghost use Rattle.task_code.specs.Fits.{IsSite};
-    ghost use Rattle.dlr_engine.specs.declared.answer.Level.TheVariants as level;
+    ghost use Rattle.answered_operations.specs.Operations.{operation_at};
     ghost use Rattle.dlr_engine.specs.Draws.{drawn_for};
     ghost use Rattle.dlr_engine.specs.Engines.{run_of};
-    ghost use Rattle.dlr_engine.specs.Operations.{AreProper, IsAnswered, IsCounted, IsPlainAnswer, IsProperAnswer, IsRefused, IsTaken, HasMadeAnswer};
-    ghost use Rattle.dlr_engine.specs.Passes.{calls_of, drawn_of, levels_of, limit_in, log_in, made_in, number_of, passes_in, plan_in, program_in, shared_in, AreNew, ArePasses, IsDrawnBy, IsPartOf, IsPassOf, IsSamePass, IsUntaken};
+    ghost use Rattle.dlr_engine.specs.Knowing.{IsChosenFor, Uses};
+    ghost use Rattle.dlr_engine.specs.Operations.{on_object_of, AreProper, IsAnswered, IsChosenAt, IsChosenThere, IsCounted, IsPlainAnswer, IsProperAnswer, IsRefused, IsTaken, HasMadeAnswer};
+    ghost use Rattle.dlr_engine.specs.Passes.{answered_of, calls_of, drawn_of, has_others, kept_at, levels_of, limit_in, log_in, made_in, number_of, passes_in, plan_in, program_in, shared_in, AreNew, ArePasses, IsDrawnBy, IsPartOf, IsPassOf, IsSamePass, IsUntaken, KeepsRulesAt};
     ghost use Rattle.dlr_engine.specs.Levels.{all_levels};
     ghost use Rattle.dlr_engine.specs.Closing.{drawn_in, journals_in, levels_in, AreDrawn, IsClosedRow};
 
@@ -64,8 +64,8 @@ impl<'p, L: Language + Drop> Engine<'p, L> {
         ensures passes { IfOk result (λ r. ArePasses (run_of r.0) r.1.items) }
         ensures new { IfOk result (λ r. AreNew r.1.items) }
     {
-        let (run, first) = Run::new(alloc, program, lang.funs().len(), objects, passes)?;
-        let passes = run.passes_from(alloc, first)?;
+        let (run, first) = Run::new(alloc, program, lang.funs(), objects, passes)?;
+        let passes = run.passes_from(alloc, lang.funs(), first)?;
         Ok((Engine { run, lang }, passes))
     }
 
@@ -107,16 +107,19 @@ impl<'p, L: Language + Drop> Engine<'p, L> {
             IsAnswered (plan_in (run_of self.now)) task site operands.now pass.old pass.new) }
         ensures proper { IfOk result (IsProperAnswer (run_of self.now)) }
         ensures counted { IfOk result (λ a. IsCounted a.level pass.old pass.new) }
-        ensures bound { IfOk result (λ a. a.level ≡ level.Bind) }
-        ensures refused { OnErr result (IsRefused pass.old pass.new) }
+        ensures chosen { IfOk result (IsChosenAt (run_of self.now) site operands.now pass.old pass.new) }
+        ensures listed { OnOk result (
+            answered_of pass.new ≡ answered_of pass.old ++ operation_at site operands.now ∷ []) }
+        ensures refused { OnErr result (IsRefused (run_of self.now) pass.old pass.new) }
     {
         let binder = self.run.program.binder_of(site);
-        match object_of(binder, operands) {
+        let number = self.run.program.sites()[site as usize];
+        let answer = match object_of(binder, operands) {
             Some((object, arguments)) => {
                 let head = EntryHead {
                     pass: pass.number(),
                     task,
-                    binder: self.run.program.sites()[site as usize],
+                    binder: number,
                 };
                 let operation = Operation {
                     binder,
@@ -125,10 +128,12 @@ impl<'p, L: Language + Drop> Engine<'p, L> {
                     operands,
                     arguments,
                 };
-                self.operate_on(rt, alloc, pass, operation)
+                self.operate_on(rt, alloc, pass, operation)?
             }
-            None => self.operate_plain(rt, alloc, pass, binder, operands),
-        }
+            None => self.operate_plain(rt, alloc, pass, number, binder, operands)?,
+        };
+        pass.answered.add(site, operands);
+        Ok(answer)
     }
 
     /// Makes an operation on an object in a turn, and counts it.
@@ -150,26 +155,31 @@ impl<'p, L: Language + Drop> Engine<'p, L> {
         ensures made { IfOk result (
             HasMadeAnswer self.now.run.tag operation.entry (log_in pass.old) (log_in pass.new)) }
         ensures counted { IfOk result (λ a. IsCounted a.level pass.old pass.new) }
-        ensures bound { IfOk result (λ a. a.level ≡ level.Bind) }
-        ensures refused { OnErr result (IsRefused pass.old pass.new) }
+        ensures uses { IfOk result (λ a. let n = operation.entry.head.binder in
+            Uses (has_others (run_of self.now)) a.level (kept_at pass.old n) (kept_at pass.new n)
+            (IsChosenThere self.now.run.tag.binders.now (on_object_of operation.entry) operation.entry.operands.now
+            (log_in pass.new) a.level a.place)) }
+        ensures others { (n : ℕ) → n ≢ operation.entry.head.binder → KeepsRulesAt pass.old pass.new n }
+        ensures listed { answered_of pass.new ≡ answered_of pass.old }
+        ensures refused { OnErr result (IsRefused (run_of self.now) pass.old pass.new) }
     {
         pass.calls += 1;
-        let object = operation.object;
-        let made = self.run.turn_on(
+        let number = operation.head.binder as usize;
+        let object = operation.object as usize;
+        let answer = self.run.answer_on(
             rt,
             alloc,
             &self.lang,
             &mut pass.rows,
             &mut pass.mind,
+            &mut pass.known[number],
+            &mut pass.classes[object],
+            &mut pass.dropped,
+            &self.run.caches[number],
             operation,
         )?;
-        pass.levels.raise(Level::Bind);
-        Ok(Answer {
-            outcome: made.outcome,
-            level: Level::Bind,
-            row: Some(object),
-            place: made.place,
-        })
+        pass.levels.raise(answer.level);
+        Ok(answer)
     }
 
     /// Answers an operation that looks at no object, and counts it.
@@ -178,11 +188,13 @@ impl<'p, L: Language + Drop> Engine<'p, L> {
         rt: &R,
         alloc: Global,
         pass: &mut Pass<'p>,
+        number: u32,
         binder: &Binder,
         operands: &[Value],
     ) -> Result<Answer, AllocError>
         requires own { IsPartOf (run_of self.now) pass.old }
         requires few { calls_of pass.old < 2 ^ 60 }
+        requires binder { slice_get self.now.run.tag.binders.now number ≡ Some binder.now }
         requires none { on_object binder.now operands.now ≡ None }
         requires short_names { has_short_names binder.now ≡ true }
         requires suit { Suit binder.now operands.now }
@@ -193,20 +205,27 @@ impl<'p, L: Language + Drop> Engine<'p, L> {
         ensures log { log_in pass.new ≡ log_in pass.old }
         ensures proper { IfOk result (IsProperAnswer (run_of self.now)) }
         ensures counted { IfOk result (λ a. IsCounted a.level pass.old pass.new) }
-        ensures bound { IfOk result (λ a. a.level ≡ level.Bind) }
-        ensures refused { OnErr result (IsRefused pass.old pass.new) }
+        ensures uses { IfOk result (λ a.
+            Uses (has_others (run_of self.now)) a.level (kept_at pass.old number) (kept_at pass.new number)
+            (λ knew. IsChosenFor a.level knew operands.now 0)) }
+        ensures others { (n : ℕ) → n ≢ number → KeepsRulesAt pass.old pass.new n }
+        ensures listed { answered_of pass.new ≡ answered_of pass.old }
+        ensures refused { OnErr result (IsRefused (run_of self.now) pass.old pass.new) }
     {
         pass.calls += 1;
-        let outcome = pass
-            .mind
-            .plain_outcome(rt, alloc, &self.lang, &self.run.table, binder, operands)?;
-        pass.levels.raise(Level::Bind);
-        Ok(Answer {
-            outcome,
-            level: Level::Bind,
-            row: None,
-            place: 0,
-        })
+        let answer = self.run.answer_plain(
+            rt,
+            alloc,
+            &self.lang,
+            &mut pass.mind,
+            &mut pass.known[number as usize],
+            &mut pass.dropped,
+            &self.run.caches[number as usize],
+            binder,
+            operands,
+        )?;
+        pass.levels.raise(answer.level);
+        Ok(answer)
     }
 
     /// Draws the number of a new object for a task: the pass has seen and made what it had. Where memory is refused, no

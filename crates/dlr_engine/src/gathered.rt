@@ -35,9 +35,13 @@ impl<'p> Gathered<'p> {
         let Pass {
             rows,
             mind: _,
+            known: _,
+            classes: _,
             drawn: numbers,
             levels,
             calls: _,
+            dropped: _,
+            answered: _,
         } = pass;
         drawn.push_reserved(Items::from_vec(numbers));
         Gathered {
@@ -63,9 +67,13 @@ impl<'p> Gathered<'p> {
         let Pass {
             rows: other,
             mind: _,
+            known: _,
+            classes: _,
             drawn: numbers,
             levels,
             calls: _,
+            dropped: _,
+            answered: _,
         } = pass;
         rows.join(&mut self.rows, other);
         self.drawn.push_reserved(Items::from_vec(numbers));

@@ -6,6 +6,7 @@ ghost use Rattle.rule_model.specs.Soundness.{Suit};
 ghost use Rattle.script_program.specs.Names.{has_short_names};
 
 use dyn_value::{Outcome, Value};
+use known_rules::BoundRule;
 use object_history::EntryHead;
 use standard_binders::Binder;
 
@@ -29,4 +30,11 @@ pub(crate) struct Operation<'a> {
 pub(crate) struct Made {
     pub(crate) outcome: Outcome,
     pub(crate) place: u64,
+}
+
+/// What was made, and the rule that was bound for it, if none was known.
+#[derive(Drop)]
+pub(crate) struct Done {
+    pub(crate) made: Made,
+    pub(crate) bound: Option<BoundRule>,
 }

@@ -94,7 +94,7 @@ one_answered run task site count operands old new a proper taken is = record {
 }
 
 -- and memory was refused
-pub none_answered : (run : Run) (task count : ℕ) (old new : Pass) → engine.IsTaken old new → engine.IsRefused old new
+pub none_answered : (run : Run) (task count : ℕ) (old new : Pass) → engine.IsTaken old new → engine.IsRefused run old new
     → tale_in run task count new ≡ tale_in run task count old
 none_answered run task count old new taken is = λ i. record {
   by = record { plan = plan_in run; pass = taken.same.0 i; task = task; limit = limit_in run };

@@ -11,6 +11,7 @@ ghost use Rattle.dlr_engine.specs.Passes.{plan_in, IsPassOf, IsSamePass};
 use crate::{Answer, Engine, Pass};
 use dyn_value::Value;
 use fallback::Script;
+use meta_object::Language;
 use script_program::{Program, ReadFault, read};
 use std::alloc::{AllocError, Global};
 use std::sync::Wait;
@@ -46,10 +47,10 @@ pub(super) fn program_of(alloc: Global, script: &[u8]) -> Result<Program, Fail> 
 }
 
 /// Answers the operation of a site for a task, where it is one of the program.
-pub(super) fn ask<'p, R: Wait>(
+pub(super) fn ask<'p, L: Language + Drop, R: Wait>(
     rt: &R,
     alloc: Global,
-    engine: &Engine<'p, Script>,
+    engine: &Engine<'p, L>,
     pass: &mut Pass<'p>,
     task: u32,
     site: u32,
@@ -82,7 +83,7 @@ pub(super) fn draw<'p>(
 }
 
 /// Whether the site is one of the program, and the operands are of the run and suit it.
-fn is_operation(engine: &Engine<'_, Script>, site: u32, operands: &[Value]) -> bool
+fn is_operation<L: Language + Drop>(engine: &Engine<'_, L>, site: u32, operands: &[Value]) -> bool
     ensures site { result ≡ true → IsSite (plan_in (run_of engine.now)) site (length operands.now) }
     ensures proper { result ≡ true → AreProper (run_of engine.now) operands.now }
 {

@@ -1,4 +1,4 @@
-//! Operations of one pass, whose answers were worked out by hand.
+//! Operations of the passes of one engine, whose answers were worked out by hand.
 ghost use Rattle.dlr_engine.specs.Engines.{run_of};
 ghost use Rattle.dlr_engine.specs.Passes.{IsPassOf, IsSamePass};
 
@@ -9,16 +9,12 @@ use fallback::Script;
 use std::alloc::Global;
 use std::sync::Wait;
 
-/// A script with a site for each case.
-pub(super) const SCRIPT: &[u8] = b"shared o; fn f(a) { return a; } \
-    task t { o.x = 1; print o.x; print (1 + 2); delete o.x; print o.x; print f(3); }";
-
 /// The task of all operations.
 pub(super) const TASK: u32 = 7;
 
 /// What is asked for: of the first object's member `x`, of two numbers, or of the first function.
 #[derive(Clone, Copy, Debug)]
-enum Action {
+pub(super) enum Action {
     Set(i64),
     Get,
     Delete,
@@ -28,87 +24,127 @@ enum Action {
 
 /// A form of outcome.
 #[derive(Clone, Copy, Debug)]
-enum Want {
+pub(super) enum Want {
     Nil,
     Number(i64),
     Call(u32),
     NoMember,
 }
 
-/// A site, what is asked there, the number of its binder, what it has to give, and where its entry has to stand.
+/// A site, and the number of its binder.
+#[derive(Clone, Copy, Debug)]
+pub(super) struct Site {
+    pub(super) number: u32,
+    pub(super) binder: u32,
+}
+
+/// Which pass is asked, at which site and for what, what that has to give and at which level, and where its entry has
+/// to stand.
 #[derive(Clone, Copy, Debug)]
 pub(super) struct Case {
-    site: u32,
+    pass: u32,
+    site: Site,
     action: Action,
-    binder: u32,
     want: Want,
+    level: Level,
     place: Option<u64>,
 }
 
-/// A case for each site, in order.
-pub(super) const CASES: [Case; 6] = [
-    Case {
-        site: 0,
-        action: Action::Set(1),
-        binder: 0,
-        want: Want::Nil,
-        place: Some(0),
-    },
-    Case {
-        site: 1,
-        action: Action::Get,
-        binder: 1,
-        want: Want::Number(1),
-        place: Some(1),
-    },
-    Case {
-        site: 2,
-        action: Action::Add(1, 2),
-        binder: 2,
-        want: Want::Number(3),
-        place: None,
-    },
-    Case {
-        site: 3,
-        action: Action::Delete,
-        binder: 3,
-        want: Want::Nil,
-        place: Some(2),
-    },
-    Case {
-        site: 4,
-        action: Action::Get,
-        binder: 1,
-        want: Want::NoMember,
-        place: Some(3),
-    },
-    Case {
-        site: 5,
-        action: Action::Invoke(3),
-        binder: 4,
-        want: Want::Call(0),
-        place: None,
-    },
-];
+impl Case {
+    /// Of an operation on the first object, whose entry has this place.
+    pub(super) fn on_object(
+        pass: u32,
+        site: Site,
+        action: Action,
+        want: Want,
+        level: Level,
+        place: u64,
+    ) -> Case {
+        Case {
+            pass,
+            site,
+            action,
+            want,
+            level,
+            place: Some(place),
+        }
+    }
 
-/// Asks for the operation of each case, in order, and says whether each answer is the one that is wanted.
+    /// Of an operation that looks at no object.
+    pub(super) fn plain(pass: u32, site: Site, action: Action, want: Want, level: Level) -> Case {
+        Case {
+            pass,
+            site,
+            action,
+            want,
+            level,
+            place: None,
+        }
+    }
+}
+
+/// Asks one pass for the operations of the cases, in order, and says whether each answer is the one that is wanted.
 pub(super) fn play<'p, R: Wait>(
     rt: &R,
     alloc: Global,
     engine: &Engine<'p, Script>,
     pass: &mut Pass<'p>,
+    cases: &[Case],
 ) -> Result<bool, Refused>
     requires own { IsPassOf (run_of engine.now) pass.old }
     ensures own { IsPassOf (run_of engine.now) pass.new }
     ensures same { IsSamePass pass.old pass.new }
 {
-    for case in CASES {
-        let answer = answer_to(rt, alloc, engine, pass, case.site, case.action)?;
-        if !is_answer(&case, &answer) {
+    for case in cases {
+        if !is_answered(rt, alloc, engine, pass, case)? {
             return Ok(false);
         }
     }
     Ok(true)
+}
+
+/// Asks two passes, each for its own cases, in the order of all, and says whether each answer is the one that is
+/// wanted.
+pub(super) fn play_two<'p, R: Wait>(
+    rt: &R,
+    alloc: Global,
+    engine: &Engine<'p, Script>,
+    first: &mut Pass<'p>,
+    second: &mut Pass<'p>,
+    cases: &[Case],
+) -> Result<bool, Refused>
+    requires first { IsPassOf (run_of engine.now) first.old }
+    requires second { IsPassOf (run_of engine.now) second.old }
+    ensures first { IsPassOf (run_of engine.now) first.new × IsSamePass first.old first.new }
+    ensures second { IsPassOf (run_of engine.now) second.new × IsSamePass second.old second.new }
+{
+    for case in cases {
+        let answered = if case.pass == 0 {
+            is_answered(rt, alloc, engine, first, case)?
+        } else {
+            is_answered(rt, alloc, engine, second, case)?
+        };
+        if !answered {
+            return Ok(false);
+        }
+    }
+    Ok(true)
+}
+
+/// Whether the pass answers the operation of the case as it has to.
+fn is_answered<'p, R: Wait>(
+    rt: &R,
+    alloc: Global,
+    engine: &Engine<'p, Script>,
+    pass: &mut Pass<'p>,
+    case: &Case,
+) -> Result<bool, Refused>
+    requires own { IsPassOf (run_of engine.now) pass.old }
+    ensures own { IsPassOf (run_of engine.now) pass.new }
+    ensures same { IsSamePass pass.old pass.new }
+{
+    let answer = answer_to(rt, alloc, engine, pass, case.site.number, case.action)?;
+    Ok(is_answer(case, &answer))
 }
 
 /// The answer to the action at a site.
@@ -136,23 +172,31 @@ fn answer_to<'p, R: Wait>(
     ask(rt, alloc, engine, pass, TASK, site, &pair)
 }
 
-/// Whether it is the case's answer, for which the operation was bound.
+/// Whether it is the case's answer.
 fn is_answer(case: &Case, answer: &Answer) -> bool {
     let is_placed = match (case.place, answer.row) {
         (Some(place), Some(0)) => answer.place == place,
         (None, None) => answer.place == 0,
         _ => false,
     };
-    is_placed && matches!(answer.level, Level::Bind) && is_outcome(case.want, &answer.outcome)
+    is_placed && is_level(case.level, answer.level) && is_outcome(case.want, &answer.outcome)
 }
 
-/// Whether these are the entries of the cases that are on an object, made by the first pass.
-pub(super) fn is_history(entries: &[Entry]) -> bool {
+/// Whether both are the level of the binder, or both that of binding.
+fn is_level(want: Level, found: Level) -> bool {
+    matches!(
+        (want, found),
+        (Level::Binder, Level::Binder) | (Level::Bind, Level::Bind)
+    )
+}
+
+/// Whether these are the entries of the cases that are on the object.
+pub(super) fn is_history(cases: &[Case], entries: &[Entry]) -> bool {
     let mut rest = entries;
-    for case in CASES {
+    for case in cases {
         if case.place.is_some() {
             match rest {
-                [entry, more @ ..] if is_entry(&case, entry) => rest = more,
+                [entry, more @ ..] if is_entry(case, entry) => rest = more,
                 _ => return false,
             }
         }
@@ -160,11 +204,11 @@ pub(super) fn is_history(entries: &[Entry]) -> bool {
     rest.is_empty()
 }
 
-/// Whether the entry is that of the case, made by the first pass.
+/// Whether the entry is that of the case.
 fn is_entry(case: &Case, entry: &Entry) -> bool {
-    entry.pass == 0
+    entry.pass == case.pass
         && entry.task == TASK
-        && entry.binder == case.binder
+        && entry.binder == case.site.binder
         && are_arguments(case.action, entry.operands.as_slice())
         && is_outcome(case.want, &entry.outcome)
 }

@@ -1,7 +1,7 @@
 use Rattle.std.proofs.Common.{◌≡◌, ◌≤◌, All, [], length, vec_capacity}
 use Rattle.object_history.specs.Histories.{mark_of, tag_with, turns_of, whole_tag_of}
 use Rattle.object_history.specs.Rows.{journal_of}
-use Rattle.dlr_engine.proofs.run.new_rows.Given as goal
+use Rattle.dlr_engine.proofs.starting.new_rows.Given as goal
 
 abbrev pub invariant-loop-row : goal.invariant-loop-row
 invariant-loop-row l = (length l.rows.items ≡ l._row) × (l.count ≤ vec_capacity l.rows)
