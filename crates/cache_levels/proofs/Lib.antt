@@ -1,0 +1,14 @@
+pub mod Fitting
+pub mod Hits
+pub mod KeptRuns
+pub mod Lasting
+pub mod LoneSteps
+pub mod Members
+pub mod Moves
+pub mod Next
+pub mod Permuted
+pub mod RunLaws
+pub mod RunSteps
+pub mod SameKinds
+pub mod SameShapes
+pub mod Worked
