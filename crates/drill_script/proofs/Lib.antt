@@ -1,0 +1,4 @@
+pub mod Appending
+pub mod Further
+pub mod Growing
+mod WorkedDraws
